@@ -1,0 +1,2 @@
+-- `Table`: the cases that document 01 marks [P].
+mod Table

@@ -1,0 +1,3 @@
+pub mod First
+pub mod Refusals
+pub mod Word

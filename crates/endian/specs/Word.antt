@@ -1,0 +1,27 @@
+-- The number in `width` bytes at a place, in either byte order. Assumes nothing.
+--     wordAt    the word of `width` bytes at `at`; a byte past the end counts as 0
+--     joined    the word of `m` bytes with value a, followed by `n` bytes with value b
+--     Swapped   the word x of `width` bytes is r with its bytes the other way round
+use Prim.Native.Nat.{ℕ, zero, suc, _+_, _*_, _^_, _<_}
+use mathlib.Core.Path.{_≡_}
+use mathlib.Core.List.{List}
+use lib.ListN.{getD}
+use Rattle.endian.specs.declared.kinds.Order.{Order}
+use Rattle.endian.specs.declared.kinds.Order.the-variants.{Little, Big}
+
+-- each further byte is the most significant so far in little, and the least significant in big
+unfoldable pub wordAt : Order → (width : ℕ) → List ℕ → (at : ℕ) → ℕ
+wordAt Little zero s at = 0
+wordAt Little (suc n) s at = wordAt Little n s at + 256 ^ n * getD s (at + n) 0
+wordAt Big zero s at = 0
+wordAt Big (suc n) s at = 256 * wordAt Big n s at + getD s (at + n) 0
+
+abbrev pub joined : Order → (m n a b : ℕ) → ℕ
+joined Little m n a b = a + 256 ^ m * b
+joined Big m n a b = 256 ^ n * a + b
+
+abbrev pub Bytes : List ℕ → Type 0
+Bytes s = (i : ℕ) → getD s i 0 < 256
+
+abbrev pub Swapped : (width x r : ℕ) → Type 0
+Swapped width x r = (s : List ℕ) (at : ℕ) → Bytes s → x ≡ wordAt Little width s at → r ≡ wordAt Big width s at

@@ -1,0 +1,3 @@
+-- `Comparing`: the steps of a comparison while reading. `Meaning`: what a comparison decides.
+pub mod Meaning
+mod Comparing

@@ -1,0 +1,47 @@
+-- What `stringEquals` decides, for whoever cites it: a string is read there, and its bytes are the name's.
+--     same-refl, same-true        `same` is equality
+--     equals-of, equals-name      a string that is read: equal exactly if its bytes are the name
+--     equals-refused              one that is not
+-- Assumes nothing.
+use Prim.Native.Nat.{ℕ}
+use mathlib.Core.Path.{_≡_, refl, sym, _∙_, ap}
+use mathlib.Core.Bool.{Bool, true, false, cond}
+use mathlib.Core.List.{List, [], _∷_}
+use native.Mathlib.Omega.{arith}
+use lib.Dec.{eqb}
+use lib.ListN.{take, drop}
+use borrow.Author.Tests.{eq-eqb, eqb-true}
+use Rattle.endian.specs.declared.refusals.Refusal.{Refusal}
+use Rattle.strings.specs.declared.StringAt.the-variants.{At, Refused}
+use Rattle.strings.specs.Strings.{same, isName, stringAt, stringEquals}
+
+false-true : {A : Type 0} → false ≡ true → A
+false-true e = let z : _≡_ {A = ℕ} 0 1 = cc in absurd (omega arith)
+
+pub same-refl : (s : List ℕ) → same s s ≡ true
+same-refl [] = refl
+same-refl (b ∷ s) = simp (eq-eqb b b refl, same-refl s)
+
+pub same-true : (s t : List ℕ) → same s t ≡ true → s ≡ t
+same-true [] [] e = refl
+same-true [] (c ∷ t) e = false-true e
+same-true (b ∷ s) [] e = false-true e
+same-true (b ∷ s) (c ∷ t) e = by (same-true s t) (eqb b c) refl e
+  where
+    by : (same s t ≡ true → s ≡ t) → (u : Bool) → eqb b c ≡ u → cond u (same s t) false ≡ true → b ∷ s ≡ c ∷ t
+    by rest true f g = cc (eqb-true b c f, rest g)
+    by rest false f g = false-true g
+
+module _ (strings : List ℕ) (offset : ℕ) (name : List ℕ) where
+  module _ (start len : ℕ) (read : stringAt strings offset ≡ At start len) where
+    pub equals-of : take len (drop start strings) ≡ name → stringEquals strings offset name ≡ true
+    unfolding stringEquals
+    equals-of equal = ap (isName strings name) read ∙ rw equal (same-refl name)
+
+    pub equals-name : stringEquals strings offset name ≡ true → take len (drop start strings) ≡ name
+    unfolding stringEquals
+    equals-name e = same-true (take len (drop start strings)) name (sym (ap (isName strings name) read) ∙ e)
+
+  pub equals-refused : (r : Refusal) → stringAt strings offset ≡ Refused r → stringEquals strings offset name ≡ false
+  unfolding stringEquals
+  equals-refused r refused = ap (isName strings name) refused

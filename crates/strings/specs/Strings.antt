@@ -1,0 +1,41 @@
+-- A string of a string table: it runs from its offset to the next zero byte (01, module 1; gABI, "String Table").
+--     isZero, readable    of the bytes from the offset on: which ends the string, and whether there is one
+--     stringAt            the string at an offset, as a place
+--     same                two lists are equal
+--     stringEquals        whether the string at an offset can be read and is the name
+-- Assumes nothing.
+use Prim.Native.Nat.{ℕ}
+use mathlib.Core.Bool.{Bool, true, false, cond}
+use mathlib.Core.List.{List, [], _∷_}
+use lib.Dec.{eqb, ltb}
+use lib.ListN.{length, take, drop}
+use Rattle.endian.specs.First.{first}
+use Rattle.endian.specs.Refusals.{limit, tooLong, noString}
+use Rattle.strings.specs.declared.StringAt.{StringAt}
+use Rattle.strings.specs.declared.StringAt.the-variants.{At, Refused}
+
+abbrev pub isZero : ℕ → Bool
+isZero b = eqb b 0
+
+unfoldable pub readable : List ℕ → Bool
+readable rest = ltb (first isZero rest) (length rest)
+
+abbrev pub stringAt : List ℕ → ℕ → StringAt
+stringAt strings offset =
+    cond (ltb limit (length strings)) (Refused tooLong)
+    (cond (readable (drop offset strings)) (At offset (first isZero (drop offset strings)))
+    (Refused noString))
+
+abbrev pub same : List ℕ → List ℕ → Bool
+same [] [] = true
+same [] (c ∷ t) = false
+same (b ∷ s) [] = false
+same (b ∷ s) (c ∷ t) = cond (eqb b c) (same s t) false
+
+-- of what was read at an offset: a string, and equal to the name
+abbrev pub isName : List ℕ → List ℕ → StringAt → Bool
+isName strings name (At start len) = same (take len (drop start strings)) name
+isName strings name (Refused r) = false
+
+unfoldable pub stringEquals : List ℕ → ℕ → List ℕ → Bool
+stringEquals strings offset name = isName strings name (stringAt strings offset)

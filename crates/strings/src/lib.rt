@@ -1,0 +1,62 @@
+// Strings of a string table: the one at an offset, and whether it is a wanted name.
+use endian::refusals::LIMIT;
+use endian::refusals::NO_STRING;
+use endian::refusals::Refusal;
+use endian::refusals::TOO_LONG;
+ghost use mathlib.Core.Path.{_≡_};
+ghost use Rattle.strings.specs.Strings.{stringAt, stringEquals};
+
+// A part of the lent strings, without its zero.
+pub enum StringAt {
+    At { start: usize, len: usize },
+    Refused(Refusal),
+}
+
+// The string at an offset. Refused in this order: strings that are too long; an offset at or past
+// the end, or no zero from there on.
+pub fn string_at(strings: &[u8], offset: u32) -> StringAt
+    ensures { λ r. ⌜ r ≡ stringAt (now (strings .entry)) offset ⌝ }
+{
+    if LIMIT < strings.len() {
+        return StringAt::Refused(TOO_LONG);
+    }
+    let start = offset as usize;
+    let mut i = start;
+    while i < strings.len() {
+        if strings[i] == 0 {
+            return StringAt::At {
+                start: start,
+                len: i - start,
+            };
+        }
+        i += 1;
+    }
+    StringAt::Refused(NO_STRING)
+}
+
+// Whether `string_at` reads a string at the offset and it is the name, byte for byte. Compares while
+// reading, and stops at the first difference.
+pub fn string_equals(strings: &[u8], offset: u32, name: &[u8]) -> bool
+    ensures { λ r. ⌜ r ≡ stringEquals (now (strings .entry)) offset (now (name .entry)) ⌝ }
+{
+    let start = offset as usize;
+    if LIMIT < strings.len() {
+        return false;
+    }
+    if strings.len() <= start {
+        return false;
+    }
+    if strings.len() - start <= name.len() {
+        return false;
+    }
+    for i in 0..name.len() {
+        let b = strings[start + i];
+        if b != name[i] {
+            return false;
+        }
+        if b == 0 {
+            return false;
+        }
+    }
+    strings[start + name.len()] == 0
+}
