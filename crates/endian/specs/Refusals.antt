@@ -1,12 +1,21 @@
 -- The size limit, and the refusals by their numbers, in the order of document 01's table, "Refusals".
--- `refusals` has all of them. Assumes nothing.
+--     limit, anyLong    the most bytes that a lent part may have, and whether one of several has more
+--     refusal           the refusal of a number
+--     refusals          all of them, each under its name
+-- Assumes nothing.
 use Prim.Native.Nat.{ℕ}
+use mathlib.Core.Bool.{Bool, true, false, cond}
 use mathlib.Core.List.{List, [], _∷_}
+use lib.Dec.{ltb}
+use lib.ListN.{length}
 use Rattle.endian.specs.declared.refusals.Refusal.{Refusal}
 
--- the most bytes that a lent part may have
 abbrev pub limit : ℕ
 limit = 16777216
+
+abbrev pub anyLong : List (List ℕ) → Bool
+anyLong [] = false
+anyLong (part ∷ parts) = cond (ltb limit (length part)) true (anyLong parts)
 
 abbrev pub refusal : ℕ → Refusal
 refusal n = record { 0 = n }

@@ -1,0 +1,79 @@
+-- A table of symbols, as the gABI and document 01's "Layouts" lay them out.
+--     symbolSize      the bytes of a record
+--     symbolOf        the fields of the record at a place
+--     symbolCount     how many whole records there are
+--     symbolAt        the symbol of a number
+--     symbolName      the name of the symbol of a number
+-- Assumes nothing.
+use Prim.Native.Nat.{ℕ, _+_, _*_, _/_}
+use mathlib.Core.Bool.{cond}
+use mathlib.Core.List.{List, [], _∷_}
+use lib.Dec.{eqb, leb, ltb}
+use lib.ListN.{length}
+use Rattle.endian.specs.declared.kinds.Class.{Class}
+use Rattle.endian.specs.declared.kinds.Class.the-variants.{Elf32, Elf64}
+use Rattle.endian.specs.declared.kinds.Order.{Order}
+use Rattle.endian.specs.Refusals.{limit, anyLong, tooLong, noSymbol}
+use Rattle.endian.specs.Word.{Field, fieldAt}
+use Rattle.strings.specs.Strings.{stringAt}
+use Rattle.strings.specs.declared.StringAt.{StringAt}
+use Rattle.strings.specs.declared.StringAt.the-variants.{Refused as String·Refused}
+use Rattle.symbol.specs.declared.entry.Symbol.{Symbol}
+use Rattle.symbol.specs.declared.table.SymbolIndex.{SymbolIndex}
+use Rattle.symbol.specs.declared.table.SymbolCount.{SymbolCount}
+use Rattle.symbol.specs.declared.table.SymbolCount.the-variants.{Symbols, Refused as Count·Refused}
+use Rattle.symbol.specs.declared.table.SymbolAt.{SymbolAt}
+use Rattle.symbol.specs.declared.table.SymbolAt.the-variants.{At, Refused}
+
+pub data SymbolField : Type 0 where
+  name value size info other shndx : SymbolField
+
+-- Sym32 and Sym64 of document 01
+abbrev pub layout : Class → SymbolField → Field
+layout Elf32 name = record { at = 0; width = 4 }
+layout Elf32 value = record { at = 4; width = 4 }
+layout Elf32 size = record { at = 8; width = 4 }
+layout Elf32 info = record { at = 12; width = 1 }
+layout Elf32 other = record { at = 13; width = 1 }
+layout Elf32 shndx = record { at = 14; width = 2 }
+layout Elf64 name = record { at = 0; width = 4 }
+layout Elf64 info = record { at = 4; width = 1 }
+layout Elf64 other = record { at = 5; width = 1 }
+layout Elf64 shndx = record { at = 6; width = 2 }
+layout Elf64 value = record { at = 8; width = 8 }
+layout Elf64 size = record { at = 16; width = 8 }
+
+abbrev pub symbolSize : Class → ℕ
+symbolSize Elf32 = 16
+symbolSize Elf64 = 24
+
+abbrev pub symbolOf : Class → Order → List ℕ → (base : ℕ) → Symbol
+symbolOf class order s base = record {
+  name = fieldAt order s base (layout class name);
+  value = fieldAt order s base (layout class value);
+  size = fieldAt order s base (layout class size);
+  info = fieldAt order s base (layout class info);
+  other = fieldAt order s base (layout class other);
+  shndx = fieldAt order s base (layout class shndx);
+}
+
+abbrev pub symbolCount : Class → List ℕ → SymbolCount
+symbolCount class s = cond (ltb limit (length s)) (Count·Refused tooLong) (Symbols (length s / symbolSize class))
+
+-- number 0 is refused, as is one past the whole records
+unfoldable pub symbolAt : Class → Order → List ℕ → SymbolIndex → SymbolAt
+symbolAt class order s index =
+    cond (ltb limit (length s)) (Refused tooLong)
+    (cond (eqb (index .0) 0) (Refused noSymbol)
+    (cond (leb ((index .0 + 1) * symbolSize class) (length s)) (At (symbolOf class order s (index .0 * symbolSize class)))
+    (Refused noSymbol)))
+
+-- the name of a symbol that was looked for: its string, or why there is no symbol
+abbrev pub nameIn : List ℕ → SymbolAt → StringAt
+nameIn strings (At symbol) = stringAt strings (symbol .name)
+nameIn strings (Refused r) = String·Refused r
+
+abbrev pub symbolName : Class → Order → List ℕ → List ℕ → SymbolIndex → StringAt
+symbolName class order symbols strings index =
+    cond (anyLong (symbols ∷ strings ∷ [])) (String·Refused tooLong)
+    (nameIn strings (symbolAt class order symbols index))

@@ -1,0 +1,115 @@
+// A table of symbols: how many it has, the one of a number, and its name.
+use super::entry::Symbol;
+use endian::kinds::Class;
+use endian::kinds::Order;
+use endian::refusals::LIMIT;
+use endian::refusals::NO_SYMBOL;
+use endian::refusals::Refusal;
+use endian::refusals::TOO_LONG;
+use endian::words::u8_at;
+use endian::words::u16_at;
+use endian::words::u32_at;
+use endian::words::u64_at;
+use strings::StringAt;
+ghost use mathlib.Core.Path.{_≡_};
+ghost use Prim.Native.Nat.{_<_};
+ghost use Rattle.symbol.specs.Table.{symbolSize, symbolOf, symbolCount, symbolAt, symbolName};
+
+// A symbol's number, which is never a version's.
+pub struct SymbolIndex(pub u32);
+
+pub enum SymbolCount {
+    Symbols(u32),
+    Refused(Refusal),
+}
+
+pub enum SymbolAt {
+    At(Symbol),
+    Refused(Refusal),
+}
+
+fn symbol_size(class: Class) -> usize
+    ensures { λ r. ⌜ r ≡ symbolSize class ⌝ }
+{
+    match class {
+        Class::Elf32 => 16,
+        Class::Elf64 => 24,
+    }
+}
+
+// How many whole records there are; a shorter tail is ignored. Refused: symbols that are too long.
+pub fn symbol_count(symbols: &[u8], class: Class) -> SymbolCount
+    ensures { λ r. ⌜ r ≡ symbolCount class (now (symbols .entry)) ⌝ }
+{
+    if LIMIT < symbols.len() {
+        return SymbolCount::Refused(TOO_LONG);
+    }
+    match class {
+        Class::Elf32 => SymbolCount::Symbols((symbols.len() / 16) as u32),
+        Class::Elf64 => SymbolCount::Symbols((symbols.len() / 24) as u32),
+    }
+}
+
+// The fields of the record at a place. A byte past the end counts as 0.
+fn symbol_of(symbols: &[u8], base: usize, class: Class, order: Order) -> Symbol
+    requires { ⌜ base < 4294967296 ⌝ }
+    ensures { λ r. ⌜ r ≡ symbolOf class order (now (symbols .entry)) base ⌝ }
+{
+    match class {
+        Class::Elf32 => Symbol {
+            name: u32_at(symbols, base, order),
+            value: u32_at(symbols, base + 4, order) as u64,
+            size: u32_at(symbols, base + 8, order) as u64,
+            info: u8_at(symbols, base + 12),
+            other: u8_at(symbols, base + 13),
+            shndx: u16_at(symbols, base + 14, order),
+        },
+        Class::Elf64 => Symbol {
+            name: u32_at(symbols, base, order),
+            value: u64_at(symbols, base + 8, order),
+            size: u64_at(symbols, base + 16, order),
+            info: u8_at(symbols, base + 4),
+            other: u8_at(symbols, base + 5),
+            shndx: u16_at(symbols, base + 6, order),
+        },
+    }
+}
+
+// The symbol of a number. Refused in this order: symbols that are too long; number 0, or one with
+// no whole record.
+pub fn symbol_at(symbols: &[u8], index: SymbolIndex, class: Class, order: Order) -> SymbolAt
+    ensures { λ r. ⌜ r ≡ symbolAt class order (now (symbols .entry)) index ⌝ }
+{
+    if LIMIT < symbols.len() {
+        return SymbolAt::Refused(TOO_LONG);
+    }
+    if index.0 == 0 {
+        return SymbolAt::Refused(NO_SYMBOL);
+    }
+    let number = index.0 as usize;
+    let record = symbol_size(class);
+    if symbols.len() < (number + 1) * record {
+        return SymbolAt::Refused(NO_SYMBOL);
+    }
+    SymbolAt::At(symbol_of(symbols, number * record, class, order))
+}
+
+// The name of a symbol. Refused in this order: symbols or strings that are too long; as `symbol_at`;
+// as `strings::string_at`.
+pub fn symbol_name(
+    symbols: &[u8],
+    strings: &[u8],
+    index: SymbolIndex,
+    class: Class,
+    order: Order,
+) -> StringAt
+    ensures { λ r. ⌜ r ≡ symbolName class order (now (symbols .entry)) (now (strings .entry)) index ⌝ }
+{
+    if LIMIT < strings.len() {
+        return StringAt::Refused(TOO_LONG);
+    }
+    match symbol_at(symbols, index, class, order) {
+        SymbolAt::At(symbol) => strings::string_at(strings, symbol.name),
+        SymbolAt::Refused(refusal) => StringAt::Refused(refusal),
+    }
+}
