@@ -113,7 +113,7 @@ pub fn u8_at(s: &[u8], at: usize) -> u8
     if at < s.len() { s[at] } else { 0 }
 }
 
-pub fn u16_at(s: &[u8], at: usize, order: Order) -> u16
+pub fn u16_at(order: Order, s: &[u8], at: usize) -> u16
     ensures { λ r. ⌜ r ≡ wordAt order 2 (now (s .entry)) at ⌝ }
 {
     let x = little_u16(s, at);
@@ -123,7 +123,7 @@ pub fn u16_at(s: &[u8], at: usize, order: Order) -> u16
     }
 }
 
-pub fn u32_at(s: &[u8], at: usize, order: Order) -> u32
+pub fn u32_at(order: Order, s: &[u8], at: usize) -> u32
     ensures { λ r. ⌜ r ≡ wordAt order 4 (now (s .entry)) at ⌝ }
 {
     let x = little_u32(s, at);
@@ -133,7 +133,7 @@ pub fn u32_at(s: &[u8], at: usize, order: Order) -> u32
     }
 }
 
-pub fn u64_at(s: &[u8], at: usize, order: Order) -> u64
+pub fn u64_at(order: Order, s: &[u8], at: usize) -> u64
     ensures { λ r. ⌜ r ≡ wordAt order 8 (now (s .entry)) at ⌝ }
 {
     let x = little_u64(s, at);

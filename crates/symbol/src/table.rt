@@ -38,7 +38,7 @@ fn symbol_size(class: Class) -> usize
 }
 
 // How many whole records there are; a shorter tail is ignored. Refused: symbols that are too long.
-pub fn symbol_count(symbols: &[u8], class: Class) -> SymbolCount
+pub fn symbol_count(class: Class, symbols: &[u8]) -> SymbolCount
     ensures { λ r. ⌜ r ≡ symbolCount class (now (symbols .entry)) ⌝ }
 {
     if LIMIT < symbols.len() {
@@ -51,33 +51,33 @@ pub fn symbol_count(symbols: &[u8], class: Class) -> SymbolCount
 }
 
 // The fields of the record at a place. A byte past the end counts as 0.
-fn symbol_of(symbols: &[u8], base: usize, class: Class, order: Order) -> Symbol
+fn symbol_of(class: Class, order: Order, symbols: &[u8], base: usize) -> Symbol
     requires { ⌜ base < 4294967296 ⌝ }
     ensures { λ r. ⌜ r ≡ symbolOf class order (now (symbols .entry)) base ⌝ }
 {
     match class {
         Class::Elf32 => Symbol {
-            name: u32_at(symbols, base, order),
-            value: u32_at(symbols, base + 4, order) as u64,
-            size: u32_at(symbols, base + 8, order) as u64,
+            name: u32_at(order, symbols, base),
+            value: u32_at(order, symbols, base + 4) as u64,
+            size: u32_at(order, symbols, base + 8) as u64,
             info: u8_at(symbols, base + 12),
             other: u8_at(symbols, base + 13),
-            shndx: u16_at(symbols, base + 14, order),
+            shndx: u16_at(order, symbols, base + 14),
         },
         Class::Elf64 => Symbol {
-            name: u32_at(symbols, base, order),
-            value: u64_at(symbols, base + 8, order),
-            size: u64_at(symbols, base + 16, order),
+            name: u32_at(order, symbols, base),
+            value: u64_at(order, symbols, base + 8),
+            size: u64_at(order, symbols, base + 16),
             info: u8_at(symbols, base + 4),
             other: u8_at(symbols, base + 5),
-            shndx: u16_at(symbols, base + 6, order),
+            shndx: u16_at(order, symbols, base + 6),
         },
     }
 }
 
 // The symbol of a number. Refused in this order: symbols that are too long; number 0, or one with
 // no whole record.
-pub fn symbol_at(symbols: &[u8], index: SymbolIndex, class: Class, order: Order) -> SymbolAt
+pub fn symbol_at(class: Class, order: Order, symbols: &[u8], index: SymbolIndex) -> SymbolAt
     ensures { λ r. ⌜ r ≡ symbolAt class order (now (symbols .entry)) index ⌝ }
 {
     if LIMIT < symbols.len() {
@@ -91,24 +91,24 @@ pub fn symbol_at(symbols: &[u8], index: SymbolIndex, class: Class, order: Order)
     if symbols.len() < (number + 1) * record {
         return SymbolAt::Refused(NO_SYMBOL);
     }
-    SymbolAt::At(symbol_of(symbols, number * record, class, order))
+    SymbolAt::At(symbol_of(class, order, symbols, number * record))
 }
 
 // The name of a symbol. Refused in this order: symbols or strings that are too long; as `symbol_at`;
 // as `strings::string_at`.
 pub fn symbol_name(
+    class: Class,
+    order: Order,
     symbols: &[u8],
     strings: &[u8],
     index: SymbolIndex,
-    class: Class,
-    order: Order,
 ) -> StringAt
     ensures { λ r. ⌜ r ≡ symbolName class order (now (symbols .entry)) (now (strings .entry)) index ⌝ }
 {
     if LIMIT < strings.len() {
         return StringAt::Refused(TOO_LONG);
     }
-    match symbol_at(symbols, index, class, order) {
+    match symbol_at(class, order, symbols, index) {
         SymbolAt::At(symbol) => strings::string_at(strings, symbol.name),
         SymbolAt::Refused(refusal) => StringAt::Refused(refusal),
     }
