@@ -1,0 +1,71 @@
+// The structs that are handed back, each of more than 16 bytes, so that x86-64 hands them back
+// through memory. A refusal of 0 is none.
+use endian::refusals::Refusal;
+ghost use mathlib.Core.Path.{_≡_};
+ghost use Rattle.fetulombo.specs.Answers.{number, noNumber, truth};
+
+// A number, or a truth as 0 or 1. unused is 0.
+#[repr(C)]
+pub struct NumberAnswer {
+    pub refusal: u64,
+    pub value: u64,
+    pub unused: u64,
+}
+
+// A part of a lent slice.
+#[repr(C)]
+pub struct PlaceAnswer {
+    pub refusal: u64,
+    pub start: u64,
+    pub length: u64,
+}
+
+#[repr(C)]
+pub struct SymbolAnswer {
+    pub refusal: u32,
+    pub name: u32,
+    pub value: u64,
+    pub size: u64,
+    pub info: u8,
+    pub other: u8,
+    pub shndx: u16,
+}
+
+// What a symbol's info, other and section number say; the last five are 0 or 1.
+#[repr(C)]
+pub struct FactsAnswer {
+    pub bind: u32,
+    pub kind: u32,
+    pub visibility: u32,
+    pub undefined: u32,
+    pub common: u32,
+    pub absolute: u32,
+    pub local: u32,
+    pub weak: u32,
+}
+
+pub(crate) fn number_answer(value: u64) -> NumberAnswer
+    ensures { λ r. ⌜ r ≡ number value ⌝ }
+{
+    NumberAnswer {
+        refusal: 0,
+        value: value,
+        unused: 0,
+    }
+}
+
+pub(crate) fn no_number(refusal: Refusal) -> NumberAnswer
+    ensures { λ r. ⌜ r ≡ noNumber refusal ⌝ }
+{
+    NumberAnswer {
+        refusal: refusal.0 as u64,
+        value: 0,
+        unused: 0,
+    }
+}
+
+pub(crate) fn truth_answer(value: bool) -> NumberAnswer
+    ensures { λ r. ⌜ r ≡ number (truth value) ⌝ }
+{
+    number_answer(value as u64)
+}
