@@ -1,0 +1,95 @@
+//! The machine's own shared libraries: their sections, as the original reads them.
+
+use std::path::{Path, PathBuf};
+
+/// Folders that are looked into; COMPARE_LIBRARIES names others, separated by colons.
+const FOLDERS: &str = "/lib/x86_64-linux-gnu:/usr/lib/x86_64-linux-gnu:/lib64:/usr/lib64:/usr/lib";
+
+/// How many libraries are taken.
+const MOST: usize = 60;
+
+pub struct Library {
+    pub is64: bool,
+    pub big: bool,
+    pub bytes: Vec<u8>,
+    pub sections: Vec<Section>,
+}
+
+pub struct Section {
+    pub kind: u32,
+    pub link: usize,
+    start: usize,
+    length: usize,
+}
+
+pub const STRTAB: u32 = 3;
+pub const SYMTAB: u32 = 2;
+pub const DYNSYM: u32 = 11;
+pub const GNU_HASH: u32 = 0x6fff_fff6;
+
+impl Library {
+    fn open(path: &Path) -> Option<Self> {
+        let bytes = std::fs::read(path).ok()?;
+        if !bytes.starts_with(b"\x7fELF") || bytes.len() > fetulombo::LIMIT {
+            return None;
+        }
+        let is64 = oracle::file_is64(&bytes);
+        let big = oracle::file_header(is64, &bytes).ok()?.big;
+        let sections = oracle::file_sections(is64, &bytes)
+            .ok()?
+            .into_iter()
+            .map(|section| {
+                let (start, length) = section.data.unwrap_or((0, 0));
+                Section {
+                    kind: section.sh_type,
+                    link: section.link as usize,
+                    start,
+                    length,
+                }
+            })
+            .collect();
+        Some(Library {
+            is64,
+            big,
+            bytes,
+            sections,
+        })
+    }
+
+    pub fn part(&self, section: &Section) -> &[u8] {
+        &self.bytes[section.start..section.start + section.length]
+    }
+
+    /// The sections of a kind, each with the one that it is linked to.
+    pub fn linked(&self, kind: u32) -> impl Iterator<Item = (&[u8], &[u8])> {
+        self.sections
+            .iter()
+            .filter(move |section| section.kind == kind)
+            .filter_map(|section| {
+                let other = self.sections.get(section.link)?;
+                Some((self.part(section), self.part(other)))
+            })
+    }
+}
+
+/// Libraries and programs, the same ones in every run on one machine.
+pub fn found() -> Vec<Library> {
+    let folders = std::env::var("COMPARE_LIBRARIES").unwrap_or(FOLDERS.to_owned());
+    let mut paths: Vec<PathBuf> = Vec::new();
+    for folder in folders.split(':') {
+        for entry in std::fs::read_dir(folder).into_iter().flatten().flatten() {
+            if entry.file_name().to_string_lossy().contains(".so") {
+                paths.extend(entry.path().canonicalize());
+            }
+        }
+    }
+    paths.sort();
+    paths.dedup();
+    // A few of each size: every n-th.
+    let step = paths.len() / MOST + 1;
+    paths
+        .iter()
+        .step_by(step)
+        .filter_map(|path| Library::open(path))
+        .collect()
+}

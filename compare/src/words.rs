@@ -1,0 +1,49 @@
+//! Words at a place, against endian.rs: where all bytes stand, and where the rest counts as 0.
+
+use crate::Run;
+use crate::inputs::{big, lists};
+use crate::report::hex;
+use fetulombo::Order;
+use oracle::endian::{Endianness, U16Bytes, U32Bytes, U64Bytes};
+
+pub fn compare(run: &mut Run) {
+    for bytes in lists(&[0, 1, 0x80, 0xff], 5) {
+        for at in 0..=6 {
+            one(run, &bytes, at);
+        }
+    }
+    for _ in 0..100_000 * run.scale {
+        let length = run.random.below(20);
+        let bytes = run.random.bytes(length, 8);
+        let at = run.random.near(&[0, length as u64, u64::MAX]) as usize;
+        one(run, &bytes, at);
+    }
+}
+
+fn one(run: &mut Run, bytes: &[u8], at: usize) {
+    // The bytes from the place on, and zeros.
+    let mut eight = [0; 8];
+    for (to, from) in eight.iter_mut().zip(bytes.get(at..).unwrap_or(&[])) {
+        *to = *from;
+    }
+    let [a, b, c, d, ..] = eight;
+    for order in [Order::Little, Order::Big] {
+        let endian = match big(order) {
+            true => Endianness::Big,
+            false => Endianness::Little,
+        };
+        let input = || format!("{order:?} {} at {at}", hex(bytes));
+        let ours = fetulombo::u16_at(order, bytes, at).map_err(|r| r.number());
+        let theirs: U16Bytes<Endianness> = U16Bytes::from_bytes([a, b]);
+        run.report
+            .same("u16_at", ours, Ok(theirs.get(endian)), |_| "word", input);
+        let ours = fetulombo::u32_at(order, bytes, at).map_err(|r| r.number());
+        let theirs: U32Bytes<Endianness> = U32Bytes::from_bytes([a, b, c, d]);
+        run.report
+            .same("u32_at", ours, Ok(theirs.get(endian)), |_| "word", input);
+        let ours = fetulombo::u64_at(order, bytes, at).map_err(|r| r.number());
+        let theirs: U64Bytes<Endianness> = U64Bytes::from_bytes(eight);
+        run.report
+            .same("u64_at", ours, Ok(theirs.get(endian)), |_| "word", input);
+    }
+}

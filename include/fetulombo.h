@@ -1,0 +1,150 @@
+/* Fetulombo: which symbol of an ELF library a name and a version bind to.
+ *
+ * Link libfetulombo.a (x86-64 Linux). The functions keep nothing, allocate nothing and write to no
+ * lent memory. Each is proved, on the abstract machine of its language, to answer what its
+ * definition says; this header and the C calls are tested.
+ *
+ * A slice is passed as a pointer and a length. The pointer is never null; that of an empty slice may
+ * be any pointer that is not null. The bytes must stay as they are during the call.
+ *
+ * A class is FETULOMBO_ELF32 or FETULOMBO_ELF64, an order FETULOMBO_LITTLE or FETULOMBO_BIG: 0 is
+ * the first, anything else the second.
+ *
+ * A refusal is 0 where there is none, and then the other fields hold the answer; otherwise it is one
+ * of the numbers below, and the other fields are 0. A part longer than FETULOMBO_LIMIT is refused
+ * (FETULOMBO_TOO_LONG) before anything else. */
+#ifndef FETULOMBO_H
+#define FETULOMBO_H
+
+#include <stddef.h>
+#include <stdint.h>
+
+#ifdef __cplusplus
+extern "C" {
+#endif
+
+#define FETULOMBO_ELF32 0
+#define FETULOMBO_ELF64 1
+#define FETULOMBO_LITTLE 0
+#define FETULOMBO_BIG 1
+
+/* The most bytes that a part may have. */
+#define FETULOMBO_LIMIT 16777216u
+
+#define FETULOMBO_TOO_LONG 1
+#define FETULOMBO_NOTE_SHORT 2
+#define FETULOMBO_BAD_NOTE_NAME 3
+#define FETULOMBO_BAD_NOTE_DESCRIPTOR 4
+#define FETULOMBO_BAD_NOTE_ALIGNMENT 5
+#define FETULOMBO_BAD_PROPERTY 6
+#define FETULOMBO_SHORT_PROPERTY_NUMBER 7
+#define FETULOMBO_VERDEF_SHORT 8
+#define FETULOMBO_BAD_VERDEF_AUX 9
+#define FETULOMBO_BAD_VERDEF_NEXT 10
+#define FETULOMBO_VERDAUX_SHORT 11
+#define FETULOMBO_BAD_VERDAUX_NEXT 12
+#define FETULOMBO_VERNEED_SHORT 13
+#define FETULOMBO_BAD_VERNEED_AUX 14
+#define FETULOMBO_BAD_VERNEED_NEXT 15
+#define FETULOMBO_VERNAUX_SHORT 16
+#define FETULOMBO_BAD_VERNAUX_NEXT 17
+#define FETULOMBO_BAD_VERDAUX_NAME 18
+#define FETULOMBO_BAD_VERNEED_FILE 19
+#define FETULOMBO_BAD_VERNAUX_NAME 20
+#define FETULOMBO_BAD_VERSION_INDEX 21
+#define FETULOMBO_STORE_TOO_SMALL 22
+#define FETULOMBO_BAD_SYSV_HEADER 23
+#define FETULOMBO_BAD_SYSV_BUCKETS 24
+#define FETULOMBO_BAD_SYSV_CHAINS 25
+#define FETULOMBO_BAD_GNU_HEADER 26
+#define FETULOMBO_BAD_GNU_BLOOM 27
+#define FETULOMBO_BAD_GNU_BUCKETS 28
+#define FETULOMBO_NO_SEGMENT 29
+#define FETULOMBO_BAD_BLOOM_SHIFT 30
+#define FETULOMBO_BAD_SEGMENT_DATA 31
+#define FETULOMBO_BAD_DYNAMIC_PLACE 32
+#define FETULOMBO_BAD_INTERPRETER_PLACE 33
+#define FETULOMBO_ENDLESS_INTERPRETER 34
+#define FETULOMBO_BAD_NOTE_PLACE 35
+#define FETULOMBO_NO_STRING 36
+#define FETULOMBO_NO_SYMBOL 37
+
+/* A number, or a truth as 0 or 1. unused is 0. */
+typedef struct {
+    uint64_t refusal;
+    uint64_t value;
+    uint64_t unused;
+} fetulombo_number;
+
+/* A part of a lent slice. */
+typedef struct {
+    uint64_t refusal;
+    uint64_t start;
+    uint64_t length;
+} fetulombo_place;
+
+/* The fields of a symbol. */
+typedef struct {
+    uint32_t refusal;
+    uint32_t name;
+    uint64_t value;
+    uint64_t size;
+    uint8_t info;
+    uint8_t other;
+    uint16_t shndx;
+} fetulombo_symbol;
+
+/* What info, other and shndx of a symbol say; from undefined on 0 or 1. It is never refused. */
+typedef struct {
+    uint32_t bind;
+    uint32_t kind;
+    uint32_t visibility;
+    uint32_t undefined;
+    uint32_t common;
+    uint32_t absolute;
+    uint32_t local;
+    uint32_t weak;
+} fetulombo_facts;
+
+/* The word of 2, 4 or 8 bytes at a place. A byte past the end counts as 0. */
+fetulombo_number fetulombo_u16_at(uint8_t order, const uint8_t *bytes, size_t bytes_length, size_t at);
+fetulombo_number fetulombo_u32_at(uint8_t order, const uint8_t *bytes, size_t bytes_length, size_t at);
+fetulombo_number fetulombo_u64_at(uint8_t order, const uint8_t *bytes, size_t bytes_length, size_t at);
+
+/* The string at an offset, without its zero. FETULOMBO_NO_STRING: no byte there, or no zero from
+ * there on. */
+fetulombo_place fetulombo_string_at(const uint8_t *strings, size_t strings_length, uint32_t offset);
+
+/* Whether there is a string at an offset and it is the name, byte for byte. */
+fetulombo_number fetulombo_string_equals(const uint8_t *strings, size_t strings_length, uint32_t offset,
+                                         const uint8_t *name, size_t name_length);
+
+/* The GNU and the SysV hash of a name. */
+fetulombo_number fetulombo_gnu_hash(const uint8_t *name, size_t name_length);
+fetulombo_number fetulombo_sysv_hash(const uint8_t *name, size_t name_length);
+
+/* How many whole symbols there are. */
+fetulombo_number fetulombo_symbol_count(uint8_t symbol_class, const uint8_t *symbols, size_t symbols_length);
+
+/* The symbol of a number. FETULOMBO_NO_SYMBOL: number 0, or no whole record. */
+fetulombo_symbol fetulombo_symbol_at(uint8_t symbol_class, uint8_t order, const uint8_t *symbols,
+                                     size_t symbols_length, uint32_t index);
+
+/* The name of the symbol of a number, in the strings. Refused as fetulombo_symbol_at, then as
+ * fetulombo_string_at. */
+fetulombo_place fetulombo_symbol_name(uint8_t symbol_class, uint8_t order, const uint8_t *symbols,
+                                      size_t symbols_length, const uint8_t *strings, size_t strings_length,
+                                      uint32_t index);
+
+/* What the fields of a symbol say that need no strings. */
+fetulombo_facts fetulombo_symbol_facts(uint8_t info, uint8_t other, uint16_t shndx);
+
+/* Whether a symbol with these fields defines a function or a data object. */
+fetulombo_number fetulombo_symbol_is_definition(const uint8_t *strings, size_t strings_length, uint32_t name,
+                                                uint8_t info, uint16_t shndx);
+
+#ifdef __cplusplus
+}
+#endif
+
+#endif

@@ -1,0 +1,51 @@
+//! Which symbol of an ELF library a name and a version bind to.
+//!
+//! Safe functions over `libfetulombo.a`, whose functions are proved to answer what their
+//! definitions say. Every function takes any bytes, and answers or refuses by number. What is
+//! found in a lent slice is answered as a part of that slice.
+
+mod hash;
+mod raw;
+mod refusal;
+mod string;
+mod symbol;
+mod word;
+
+pub use hash::{gnu_hash, sysv_hash};
+pub use refusal::Refusal;
+pub use string::{string_at, string_equals, string_place};
+pub use symbol::{Symbol, SymbolIndex, symbol_at, symbol_count, symbol_name, symbol_name_place};
+pub use word::{u16_at, u32_at, u64_at};
+
+/// The most bytes that a lent part may have.
+pub const LIMIT: usize = 16_777_216;
+
+#[derive(Debug, Clone, Copy, PartialEq, Eq, Hash)]
+pub enum Class {
+    Elf32,
+    Elf64,
+}
+
+#[derive(Debug, Clone, Copy, PartialEq, Eq, Hash)]
+pub enum Order {
+    Little,
+    Big,
+}
+
+impl Class {
+    fn raw(self) -> u8 {
+        match self {
+            Class::Elf32 => 0,
+            Class::Elf64 => 1,
+        }
+    }
+}
+
+impl Order {
+    fn raw(self) -> u8 {
+        match self {
+            Order::Little => 0,
+            Order::Big => 1,
+        }
+    }
+}

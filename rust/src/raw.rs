@@ -1,0 +1,105 @@
+//! The archive's functions and structs, as include/fetulombo.h declares them.
+
+use crate::Refusal;
+use core::ops::Range;
+
+#[repr(C)]
+pub struct Number {
+    pub refusal: u64,
+    pub value: u64,
+    pub unused: u64,
+}
+
+#[repr(C)]
+pub struct Place {
+    pub refusal: u64,
+    pub start: u64,
+    pub length: u64,
+}
+
+#[repr(C)]
+pub struct Symbol {
+    pub refusal: u32,
+    pub name: u32,
+    pub value: u64,
+    pub size: u64,
+    pub info: u8,
+    pub other: u8,
+    pub shndx: u16,
+}
+
+#[repr(C)]
+pub struct Facts {
+    pub bind: u32,
+    pub kind: u32,
+    pub visibility: u32,
+    pub undefined: u32,
+    pub common: u32,
+    pub absolute: u32,
+    pub local: u32,
+    pub weak: u32,
+}
+
+// More than 16 bytes each: handed back through memory.
+const _: () = assert!(size_of::<Number>() == 24);
+const _: () = assert!(size_of::<Place>() == 24);
+const _: () = assert!(size_of::<Symbol>() == 32);
+const _: () = assert!(size_of::<Facts>() == 32);
+
+impl Number {
+    pub fn get(self) -> Result<u64, Refusal> {
+        Refusal::test(self.refusal)?;
+        Ok(self.value)
+    }
+}
+
+impl Place {
+    pub fn get(self) -> Result<Range<usize>, Refusal> {
+        Refusal::test(self.refusal)?;
+        Ok(self.start as usize..(self.start + self.length) as usize)
+    }
+}
+
+unsafe extern "C" {
+    pub fn fetulombo_u16_at(order: u8, bytes: *const u8, length: usize, at: usize) -> Number;
+    pub fn fetulombo_u32_at(order: u8, bytes: *const u8, length: usize, at: usize) -> Number;
+    pub fn fetulombo_u64_at(order: u8, bytes: *const u8, length: usize, at: usize) -> Number;
+
+    pub fn fetulombo_string_at(strings: *const u8, length: usize, offset: u32) -> Place;
+    pub fn fetulombo_string_equals(
+        strings: *const u8,
+        length: usize,
+        offset: u32,
+        name: *const u8,
+        name_length: usize,
+    ) -> Number;
+
+    pub fn fetulombo_gnu_hash(name: *const u8, length: usize) -> Number;
+    pub fn fetulombo_sysv_hash(name: *const u8, length: usize) -> Number;
+
+    pub fn fetulombo_symbol_count(class: u8, symbols: *const u8, length: usize) -> Number;
+    pub fn fetulombo_symbol_at(
+        class: u8,
+        order: u8,
+        symbols: *const u8,
+        length: usize,
+        index: u32,
+    ) -> Symbol;
+    pub fn fetulombo_symbol_name(
+        class: u8,
+        order: u8,
+        symbols: *const u8,
+        length: usize,
+        strings: *const u8,
+        strings_length: usize,
+        index: u32,
+    ) -> Place;
+    pub fn fetulombo_symbol_facts(info: u8, other: u8, shndx: u16) -> Facts;
+    pub fn fetulombo_symbol_is_definition(
+        strings: *const u8,
+        length: usize,
+        name: u32,
+        info: u8,
+        shndx: u16,
+    ) -> Number;
+}

@@ -1,0 +1,126 @@
+//! Every function of the package, on values worked out from the public documents. The comparison
+//! with the original is in compare/.
+
+use fetulombo::*;
+
+#[test]
+fn words() {
+    let bytes = [1, 2, 3, 4, 5, 6, 7, 8, 9];
+    assert_eq!(u16_at(Order::Little, &bytes, 1), Ok(0x0302));
+    assert_eq!(u16_at(Order::Big, &bytes, 8), Ok(0x0900));
+    assert_eq!(u32_at(Order::Little, &bytes, 1), Ok(0x05040302));
+    assert_eq!(u32_at(Order::Big, &bytes, 1), Ok(0x02030405));
+    assert_eq!(u64_at(Order::Little, &bytes, 6), Ok(0x090807));
+    assert_eq!(u64_at(Order::Big, &bytes, 0), Ok(0x0102030405060708));
+    assert_eq!(u64_at(Order::Big, &bytes, usize::MAX), Ok(0));
+    assert_eq!(u32_at(Order::Big, &[], 0), Ok(0));
+}
+
+#[test]
+fn strings() {
+    let table = b"\0abc\0d";
+    assert_eq!(string_at(table, 0), Ok(&b""[..]));
+    assert_eq!(string_at(table, 2), Ok(&b"bc"[..]));
+    assert_eq!(string_place(table, 2), Ok(2..4));
+    assert_eq!(string_at(table, 5), Err(Refusal::NO_STRING));
+    assert_eq!(string_at(table, 6), Err(Refusal::NO_STRING));
+    assert_eq!(string_at(b"", 0), Err(Refusal::NO_STRING));
+    assert_eq!(string_equals(table, 1, b"abc"), Ok(true));
+    assert_eq!(string_equals(table, 1, b"ab"), Ok(false));
+    assert_eq!(string_equals(table, 1, b"abcd"), Ok(false));
+    assert_eq!(string_equals(table, 1, b"abc\0"), Ok(false));
+    assert_eq!(string_equals(table, 5, b"d"), Ok(false));
+}
+
+#[test]
+fn hashes() {
+    for (name, gnu, sysv) in [
+        ("", 5381, 0),
+        ("a", 177670, 97),
+        ("ab", 5863208, 1650),
+        ("printf", 0x156b2bb8, 0x077905a6),
+        ("exit", 0x7c967e3f, 0x0006cf04),
+    ] {
+        assert_eq!(gnu_hash(name.as_bytes()), Ok(gnu), "{name}");
+        assert_eq!(sysv_hash(name.as_bytes()), Ok(sysv), "{name}");
+    }
+}
+
+#[test]
+fn symbols() {
+    // Big, 32 bits: the null symbol, then name, value, size, info, other, shndx.
+    let mut table = vec![0; 16];
+    table.extend([0, 0, 0, 1, 1, 2, 3, 4, 0, 0, 0, 9, 0x21, 3, 0xff, 0xf1]);
+    table.extend([0xee; 15]);
+    let (class, order) = (Class::Elf32, Order::Big);
+    assert_eq!(symbol_count(class, &table), Ok(2));
+    let symbol = symbol_at(class, order, &table, SymbolIndex(1)).unwrap();
+    assert_eq!(
+        symbol,
+        Symbol {
+            name: 1,
+            value: 0x01020304,
+            size: 9,
+            info: 0x21,
+            other: 3,
+            shndx: 0xfff1
+        }
+    );
+    assert_eq!(
+        (symbol.bind(), symbol.kind(), symbol.visibility()),
+        (2, 1, 3)
+    );
+    assert!(symbol.is_absolute() && symbol.is_weak());
+    assert!(!symbol.is_undefined() && !symbol.is_common() && !symbol.is_local());
+    assert_eq!(symbol.is_definition(b"\0x\0"), Ok(false));
+    let object = Symbol { shndx: 1, ..symbol };
+    assert_eq!(object.is_definition(b"\0x\0"), Ok(true));
+    for index in [0, 2, u32::MAX] {
+        let refused = symbol_at(class, order, &table, SymbolIndex(index));
+        assert_eq!(refused, Err(Refusal::NO_SYMBOL));
+    }
+    let name = |strings| symbol_name(class, order, &table, strings, SymbolIndex(1));
+    assert_eq!(name(b"\0x\0"), Ok(&b"x"[..]));
+    assert_eq!(name(b"\0x"), Err(Refusal::NO_STRING));
+}
+
+#[test]
+fn too_long_comes_first() {
+    let part = vec![0; LIMIT + 1];
+    let long = Err(Refusal::TOO_LONG);
+    let (class, order) = (Class::Elf64, Order::Little);
+    assert_eq!(u16_at(order, &part, 0).map(drop), long);
+    assert_eq!(u32_at(order, &part, 0).map(drop), long);
+    assert_eq!(u64_at(order, &part, 0).map(drop), long);
+    assert_eq!(string_at(&part, u32::MAX).map(drop), long);
+    assert_eq!(string_equals(&part, 0, b"").map(drop), long);
+    assert_eq!(string_equals(b"", 0, &part).map(drop), long);
+    assert_eq!(gnu_hash(&part).map(drop), long);
+    assert_eq!(sysv_hash(&part).map(drop), long);
+    assert_eq!(symbol_count(class, &part).map(drop), long);
+    assert_eq!(
+        symbol_at(class, order, &part, SymbolIndex(0)).map(drop),
+        long
+    );
+    assert_eq!(
+        symbol_name(class, order, &part, b"", SymbolIndex(0)).map(drop),
+        long
+    );
+    assert_eq!(
+        symbol_name(class, order, b"", &part, SymbolIndex(0)).map(drop),
+        long
+    );
+    assert_eq!(string_at(&part[1..], 0), Ok(&b""[..]));
+    assert_eq!(gnu_hash(&part[1..]).map(drop), Ok(()));
+}
+
+#[test]
+fn refusals_are_numbered_in_order() {
+    let numbers: Vec<u32> = Refusal::ALL
+        .iter()
+        .map(|refusal| refusal.number())
+        .collect();
+    assert_eq!(numbers, (1..=37).collect::<Vec<u32>>());
+    let text = Refusal::NO_SYMBOL.to_string();
+    assert_eq!(text, "refused (37): no symbol has that number");
+}

@@ -1,0 +1,139 @@
+/* Calls every function of the archive once or more, and compares with values worked out from the
+ * public documents. Exits with 1 and says where, if one differs. */
+#include "fetulombo.h"
+
+#include <stdio.h>
+#include <stdlib.h>
+#include <string.h>
+
+static int failures;
+
+static void same(const char *what, uint64_t got, uint64_t wanted) {
+    if (got != wanted) {
+        printf("%s: %llu, not %llu\n", what, (unsigned long long)got, (unsigned long long)wanted);
+        failures++;
+    }
+}
+
+/* The structs are handed back through memory. */
+_Static_assert(sizeof(fetulombo_number) == 24, "number");
+_Static_assert(sizeof(fetulombo_place) == 24, "place");
+_Static_assert(sizeof(fetulombo_symbol) == 32, "symbol");
+_Static_assert(sizeof(fetulombo_facts) == 32, "facts");
+
+static void words(void) {
+    const uint8_t bytes[] = {1, 2, 3, 4, 5, 6, 7, 8, 9};
+    same("u16 little", fetulombo_u16_at(FETULOMBO_LITTLE, bytes, sizeof bytes, 1).value, 0x0302);
+    same("u16 big", fetulombo_u16_at(FETULOMBO_BIG, bytes, sizeof bytes, 1).value, 0x0203);
+    same("u16 of one byte, big", fetulombo_u16_at(FETULOMBO_BIG, bytes, sizeof bytes, 8).value, 0x0900);
+    same("u32 little", fetulombo_u32_at(FETULOMBO_LITTLE, bytes, sizeof bytes, 1).value, 0x05040302);
+    same("u32 big", fetulombo_u32_at(FETULOMBO_BIG, bytes, sizeof bytes, 1).value, 0x02030405);
+    same("u32 past the end", fetulombo_u32_at(FETULOMBO_BIG, bytes, sizeof bytes, SIZE_MAX).value, 0);
+    same("u64 little", fetulombo_u64_at(FETULOMBO_LITTLE, bytes, sizeof bytes, 0).value, 0x0807060504030201);
+    same("u64 big", fetulombo_u64_at(255, bytes, sizeof bytes, 0).value, 0x0102030405060708);
+    same("u64 of three bytes, big", fetulombo_u64_at(FETULOMBO_BIG, bytes, sizeof bytes, 6).value, 0x0708090000000000);
+}
+
+static void strings(void) {
+    const uint8_t table[] = "\0abc\0d";
+    fetulombo_place place = fetulombo_string_at(table, 6, 2);
+    same("string refusal", place.refusal, 0);
+    same("string start", place.start, 2);
+    same("string length", place.length, 2);
+    same("string without zero", fetulombo_string_at(table, 6, 5).refusal, FETULOMBO_NO_STRING);
+    same("string at the end", fetulombo_string_at(table, 6, 6).refusal, FETULOMBO_NO_STRING);
+    same("string with its zero", fetulombo_string_at(table, 7, 5).length, 1);
+    same("equal", fetulombo_string_equals(table, 6, 1, (const uint8_t *)"abc", 3).value, 1);
+    same("longer", fetulombo_string_equals(table, 6, 1, (const uint8_t *)"ab", 2).value, 0);
+    same("shorter", fetulombo_string_equals(table, 6, 1, (const uint8_t *)"abcd", 4).value, 0);
+    same("unterminated", fetulombo_string_equals(table, 6, 5, (const uint8_t *)"d", 1).value, 0);
+    same("empty", fetulombo_string_equals(table, 6, 0, table, 0).value, 1);
+}
+
+static void hashes(void) {
+    same("GNU of nothing", fetulombo_gnu_hash((const uint8_t *)"", 0).value, 5381);
+    same("GNU of a", fetulombo_gnu_hash((const uint8_t *)"a", 1).value, 177670);
+    same("GNU of ab", fetulombo_gnu_hash((const uint8_t *)"ab", 2).value, 5863208);
+    same("GNU of printf", fetulombo_gnu_hash((const uint8_t *)"printf", 6).value, 0x156b2bb8);
+    same("SysV of nothing", fetulombo_sysv_hash((const uint8_t *)"", 0).value, 0);
+    same("SysV of ab", fetulombo_sysv_hash((const uint8_t *)"ab", 2).value, 1650);
+    same("SysV of printf", fetulombo_sysv_hash((const uint8_t *)"printf", 6).value, 0x077905a6);
+}
+
+static void symbols(void) {
+    /* The null symbol, and one of 64 bits, little: name 1, info 0x12, other 2, shndx 7, value, size. */
+    uint8_t table[24 * 2 + 5] = {0};
+    const uint8_t one[24] = {1, 0, 0, 0, 0x12, 2, 7, 0, 8, 7, 6, 5, 4, 3, 2, 1, 0xff, 0, 0, 0, 0, 0, 0, 0x80};
+    memcpy(table + 24, one, sizeof one);
+    same("count", fetulombo_symbol_count(FETULOMBO_ELF64, table, sizeof table).value, 2);
+    same("count of 32 bits", fetulombo_symbol_count(FETULOMBO_ELF32, table, sizeof table).value, 3);
+    fetulombo_symbol symbol = fetulombo_symbol_at(FETULOMBO_ELF64, FETULOMBO_LITTLE, table, sizeof table, 1);
+    same("symbol refusal", symbol.refusal, 0);
+    same("symbol name", symbol.name, 1);
+    same("symbol info", symbol.info, 0x12);
+    same("symbol other", symbol.other, 2);
+    same("symbol shndx", symbol.shndx, 7);
+    same("symbol value", symbol.value, 0x0102030405060708);
+    same("symbol size", symbol.size, 0x80000000000000ff);
+    same("symbol 0", fetulombo_symbol_at(1, 0, table, sizeof table, 0).refusal, FETULOMBO_NO_SYMBOL);
+    same("symbol 2", fetulombo_symbol_at(1, 0, table, sizeof table, 2).refusal, FETULOMBO_NO_SYMBOL);
+    same("last symbol", fetulombo_symbol_at(1, 0, table, sizeof table, UINT32_MAX).refusal, FETULOMBO_NO_SYMBOL);
+    const uint8_t names[] = "\0main";
+    fetulombo_place name = fetulombo_symbol_name(1, 0, table, sizeof table, names, sizeof names, 1);
+    same("name refusal", name.refusal, 0);
+    same("name start", name.start, 1);
+    same("name length", name.length, 4);
+    same("name without zero", fetulombo_symbol_name(1, 0, table, sizeof table, names, 5, 1).refusal, FETULOMBO_NO_STRING);
+    fetulombo_facts facts = fetulombo_symbol_facts(0x25, 0x83, 0xfff2);
+    same("bind", facts.bind, 2);
+    same("kind", facts.kind, 5);
+    same("visibility", facts.visibility, 3);
+    same("undefined", facts.undefined, 0);
+    same("common", facts.common, 1);
+    same("absolute", facts.absolute, 0);
+    same("local", facts.local, 0);
+    same("weak", facts.weak, 1);
+    same("a function", fetulombo_symbol_is_definition(names, sizeof names, 1, 0x12, 7).value, 1);
+    same("undefined function", fetulombo_symbol_is_definition(names, sizeof names, 1, 0x12, 0).value, 0);
+    same("a mapping symbol", fetulombo_symbol_is_definition((const uint8_t *)"$d", 3, 0, 0, 7).value, 0);
+}
+
+static void limits(void) {
+    const size_t limit = FETULOMBO_LIMIT;
+    uint8_t *part = calloc(limit + 1, 1);
+    if (part == NULL) {
+        printf("no memory\n");
+        exit(1);
+    }
+    const uint8_t *none = part;
+    same("string at the limit", fetulombo_string_at(part, limit, (uint32_t)limit - 1).refusal, 0);
+    same("string past it", fetulombo_string_at(part, limit + 1, 0).refusal, FETULOMBO_TOO_LONG);
+    same("equals past it", fetulombo_string_equals(part, limit + 1, 0, none, 0).refusal, FETULOMBO_TOO_LONG);
+    same("name past it", fetulombo_string_equals(none, 0, 0, part, limit + 1).refusal, FETULOMBO_TOO_LONG);
+    same("word at the limit", fetulombo_u32_at(0, part, limit, 0).refusal, 0);
+    same("u16 past it", fetulombo_u16_at(0, part, limit + 1, 0).refusal, FETULOMBO_TOO_LONG);
+    same("u32 past it", fetulombo_u32_at(0, part, limit + 1, 0).refusal, FETULOMBO_TOO_LONG);
+    same("u64 past it", fetulombo_u64_at(0, part, limit + 1, 0).refusal, FETULOMBO_TOO_LONG);
+    same("hash past it", fetulombo_gnu_hash(part, limit + 1).refusal, FETULOMBO_TOO_LONG);
+    same("SysV hash past it", fetulombo_sysv_hash(part, limit + 1).refusal, FETULOMBO_TOO_LONG);
+    same("count at the limit", fetulombo_symbol_count(0, part, limit).value, limit / 16);
+    same("count past it", fetulombo_symbol_count(0, part, limit + 1).refusal, FETULOMBO_TOO_LONG);
+    same("symbol past it", fetulombo_symbol_at(0, 0, part, limit + 1, 0).refusal, FETULOMBO_TOO_LONG);
+    same("name with strings past it", fetulombo_symbol_name(0, 0, none, 0, part, limit + 1, 0).refusal, FETULOMBO_TOO_LONG);
+    same("name with symbols past it", fetulombo_symbol_name(0, 0, part, limit + 1, none, 0, 0).refusal, FETULOMBO_TOO_LONG);
+    same("definition past it", fetulombo_symbol_is_definition(part, limit + 1, 0, 0, 0).refusal, FETULOMBO_TOO_LONG);
+    free(part);
+}
+
+int main(void) {
+    words();
+    strings();
+    hashes();
+    symbols();
+    limits();
+    if (failures != 0) {
+        return 1;
+    }
+    printf("the C calls agree\n");
+    return 0;
+}
