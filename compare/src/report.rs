@@ -97,5 +97,10 @@ pub fn hex(bytes: &[u8]) -> String {
         return all(bytes);
     }
     let end = &bytes[bytes.len() - 64..];
-    format!("{}..{} ({} bytes)", all(&bytes[..64]), all(end), bytes.len())
+    format!(
+        "{}..{} ({} bytes)",
+        all(&bytes[..64]),
+        all(end),
+        bytes.len()
+    )
 }

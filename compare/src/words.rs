@@ -3,8 +3,8 @@
 use crate::Run;
 use crate::inputs::{big, lists};
 use crate::report::hex;
-use fetulombo::Order;
-use oracle::endian::{Endianness, U16Bytes, U32Bytes, U64Bytes};
+use fetulombo::{LIMIT, Order};
+use oracle::endian::{Endianness, U16, U32, U64};
 
 pub fn compare(run: &mut Run) {
     for bytes in lists(&[0, 1, 0x80, 0xff], 5) {
@@ -12,11 +12,17 @@ pub fn compare(run: &mut Run) {
             one(run, &bytes, at);
         }
     }
-    for _ in 0..100_000 * run.scale {
+    for _ in 0..1_000_000 * run.scale {
         let length = run.random.below(20);
         let bytes = run.random.bytes(length, 8);
         let at = run.random.near(&[0, length as u64, u64::MAX]) as usize;
         one(run, &bytes, at);
+    }
+    let long = vec![7; LIMIT + 1];
+    for length in [LIMIT - 1, LIMIT, LIMIT + 1] {
+        for at in [0, length - 7, length - 1, length] {
+            one(run, &long[..length], at);
+        }
     }
 }
 
@@ -27,6 +33,7 @@ fn one(run: &mut Run, bytes: &[u8], at: usize) {
         *to = *from;
     }
     let [a, b, c, d, ..] = eight;
+    let fits = bytes.len() <= LIMIT;
     for order in [Order::Little, Order::Big] {
         let endian = match big(order) {
             true => Endianness::Big,
@@ -34,16 +41,25 @@ fn one(run: &mut Run, bytes: &[u8], at: usize) {
         };
         let input = || format!("{order:?} {} at {at}", hex(bytes));
         let ours = fetulombo::u16_at(order, bytes, at).map_err(|r| r.number());
-        let theirs: U16Bytes<Endianness> = U16Bytes::from_bytes([a, b]);
-        run.report
-            .same("u16_at", ours, Ok(theirs.get(endian)), |_| "word", input);
+        let theirs = if fits {
+            Ok(U16::<Endianness>::from_bytes([a, b]).get(endian))
+        } else {
+            Err(1)
+        };
+        run.report.same("u16_at", ours, theirs, |_| "word", input);
         let ours = fetulombo::u32_at(order, bytes, at).map_err(|r| r.number());
-        let theirs: U32Bytes<Endianness> = U32Bytes::from_bytes([a, b, c, d]);
-        run.report
-            .same("u32_at", ours, Ok(theirs.get(endian)), |_| "word", input);
+        let theirs = if fits {
+            Ok(U32::<Endianness>::from_bytes([a, b, c, d]).get(endian))
+        } else {
+            Err(1)
+        };
+        run.report.same("u32_at", ours, theirs, |_| "word", input);
         let ours = fetulombo::u64_at(order, bytes, at).map_err(|r| r.number());
-        let theirs: U64Bytes<Endianness> = U64Bytes::from_bytes(eight);
-        run.report
-            .same("u64_at", ours, Ok(theirs.get(endian)), |_| "word", input);
+        let theirs = if fits {
+            Ok(U64::<Endianness>::from_bytes(eight).get(endian))
+        } else {
+            Err(1)
+        };
+        run.report.same("u64_at", ours, theirs, |_| "word", input);
     }
 }
