@@ -31,7 +31,10 @@ fn string(random: &mut Random) -> Vec<u8> {
     let length = random.below(33);
     let zeros = random.of(&[2, 5, 100]);
     let strings = random.bytes(length, zeros);
-    let offset = random.near(&[0, length as u64 / 2, length as u64]) as u32;
+    let offset = match random.below(2) {
+        0 => random.near(&[0, length as u64]) as u32,
+        _ => random.below(length + 1) as u32,
+    };
     let answer = oracle::string_at(&strings, offset);
     let mut name = match answer {
         Ok((start, length)) => strings[start..start + length].to_vec(),
@@ -63,7 +66,7 @@ fn string(random: &mut Random) -> Vec<u8> {
 /// name's refusal, start and length in 1 each.
 fn symbol(random: &mut Random) -> Vec<u8> {
     let (class, order) = random.of(&KINDS);
-    let length = random.below(81);
+    let length = 20 + random.below(61);
     let mut symbols = random.bytes(length, 4);
     let strings_length = random.below(13);
     let strings = random.bytes(strings_length, 4);
@@ -76,7 +79,10 @@ fn symbol(random: &mut Random) -> Vec<u8> {
         };
         symbols[record * size(class)..][..4].copy_from_slice(&bytes);
     }
-    let index = random.near(&[1, 1, records as u64]) as u32;
+    let index = match random.below(3) {
+        0 => random.near(&[0, 1, records as u64]) as u32,
+        _ => 1 + random.below(records.max(2) - 1) as u32,
+    };
     let (wide, other) = (is64(class), big(order));
     let found = oracle::symbol_at(wide, other, &symbols, index);
     let name = oracle::symbol_name(wide, other, &symbols, &strings, index);

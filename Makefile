@@ -1,0 +1,54 @@
+# make run    proves and runs the program that shows the library at work
+# make test   everything: the comparison with the original where it is at hand, the C and Rust tests
+#             of the archive, and last the gate
+# make record writes the lists of the replay programs anew, from the original
+#
+# ORACLE is the folder of the original's build (../shared/oracle).
+
+ORACLE ?= ../shared/oracle
+CARGO := cargo
+ARCHIVE := target/staticlib/libfetulombo.a
+COMPARE := compare/target/release/compare
+
+.PHONY: run test archive calls comparison record gate clean
+
+run:
+	rt check show
+	@echo
+	@target/bin/show
+
+# The gate comes last: its last line is the verdict.
+test: calls comparison
+	$(MAKE) --no-print-directory gate
+
+archive:
+	rt staticlib fetulombo
+
+calls: archive
+	mkdir -p target/c
+	cc -std=c11 -Wall -Wextra -Werror -O2 -Iinclude tests/c/calls.c $(ARCHIVE) -o target/c/calls
+	target/c/calls
+	$(CARGO) test --offline --quiet --manifest-path rust/Cargo.toml
+
+ifneq ($(wildcard $(ORACLE)/Cargo.toml),)
+comparison: $(COMPARE)
+	$(COMPARE)
+
+record: $(COMPARE)
+	$(COMPARE) --record crates
+
+.PHONY: $(COMPARE)
+$(COMPARE): archive
+	ln -sfn $(abspath $(ORACLE)) compare/oracle
+	$(CARGO) build --offline --quiet --release --manifest-path compare/Cargo.toml
+else
+comparison record:
+	@echo "The original is not at hand ($(ORACLE)): NO COMPARISON WITH IT IS RUN."
+	@echo "docs/COMPARISON.md has the last one; the replay programs of the gate run its recorded answers."
+endif
+
+gate:
+	rt ci
+
+clean:
+	rm -rf target rust/target compare/target compare/oracle
