@@ -1,7 +1,6 @@
 -- The first multiple of an alignment that is no less than a number: it is no less, and a multiple, and no multiple lies between.
 -- Assumes nothing.
-use Prim.Native.Nat.{ℕ, _+_, _*_, _/_, _%_, _<_, _≤_}
-use mathlib.Core.Path.{_≡_}
+use Prim.Native.Nat.{ℕ, _≤_}
 use native.Mathlib.Omega.{arith}
 use Rattle.note.specs.Notes.{aligned}
 use Rattle.note.specs.declared.reader.Align.{Align}

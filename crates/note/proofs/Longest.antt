@@ -3,7 +3,7 @@
 --     trimmed-nonzero    its last byte is not
 --     trimmed-longest    it does not end in zero, and is no shorter than any front part that does not
 -- Assumes nothing.
-use Prim.Native.Nat.{ℕ, zero, suc, _-_, _<_, _≤_}
+use Prim.Native.Nat.{ℕ, zero, suc, _-_, _≤_}
 use mathlib.Core.Path.{_≡_, refl}
 use mathlib.Core.Bool.{Bool, true, false, cond}
 use mathlib.Core.List.{List, [], _∷_}

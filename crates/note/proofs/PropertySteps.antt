@@ -2,6 +2,7 @@
 --     kind-read                     the type, read at the place itself
 --     step-long, -end, -refused     the refusals and the end
 --     step-property                 a property
+--     refused-stays                 a refused reader is at its end
 -- Assumes nothing.
 use Prim.Native.Nat.{ℕ, _+_, _-_, _<_, _≤_}
 use mathlib.Core.Path.{_≡_}
@@ -42,3 +43,6 @@ module _ (r : PropertyReader) (s : List ℕ) where
           → propertyStep r s ≡ Step·Property (propertyOf r s) (to r (r .at + nextFrom r s))
       unfolding propertyStep
       step-property whole = simp (le-ltb _ _ fits, lt-leb _ _ inside, le-ltb (length s) (r .at + nextFrom r s) (omega arith))
+
+pub refused-stays : (r : PropertyReader) (s : List ℕ) → length s ≤ limit → propertyStep (atEnd r s) s ≡ End (atEnd r s)
+refused-stays r s fits = step-end (atEnd r s) s fits (omega arith)

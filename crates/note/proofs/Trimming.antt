@@ -3,10 +3,10 @@
 --     trim-last    a last element that is not 0 does, and all before it
 --     trim-less, trim-all     the same of a loop that has n elements left
 use Prim.Native.Nat.{ℕ, suc, _+_, _-_, _<_, _≤_}
-use mathlib.Core.Path.{_≡_, refl, sym, _∙_, ap}
+use mathlib.Core.Path.{_≡_, refl, _∙_, ap}
 use mathlib.Core.List.{List, [], _∷_, _++_}
 use native.Mathlib.Omega.{arith}
-use lib.Dec.{eqb, eqb·suc-zero}
+use lib.Dec.{eqb·suc-zero}
 use lib.ListN.{length, getD, take}
 use lib.Seq.{take-suc, length-take-le}
 use borrow.Author.Tests.{ne-eqb}

@@ -5,25 +5,28 @@
 --     notesFrom-step             the list, from the step's answer and the list of the reader after it
 --     stepping                   stepping gives the list
 --     stepping-only              and no other
+--     section-stepping           stepping from the start of a section gives the section's list
 -- Assumes nothing.
 use Prim.Native.Nat.{ℕ, zero, suc, _+_, _-_, _<_, _≤_}
-use mathlib.Core.Path.{_≡_, refl, sym, ap, _∙_}
+use mathlib.Core.Path.{_≡_, refl, sym, ap, _∙_, subst}
 use mathlib.Core.Bool.{Bool, true, false, cond}
 use mathlib.Core.List.{List}
 use native.Mathlib.Omega.{arith}
 use lib.Dec.{ltb, leb}
 use lib.ListN.{length}
-use borrow.Author.Tests.{leb-false}
+use borrow.Author.Tests.{leb-false, ltb-true}
+use Rattle.endian.specs.declared.kinds.Order.{Order}
 use Rattle.endian.specs.declared.refusals.Refusal.{Refusal}
 use Rattle.endian.specs.Refusals.{limit, tooLong, noteShort, badNoteName, badNoteDescriptor}
-use Rattle.note.specs.Notes.{noteStep, to, atEnd, header, namesz, descsz, nameEnd, descriptorFrom, descriptorEnd, nextFrom, noteOf}
-use Rattle.note.specs.Walk.{NoteList, ended, stopped, none, onto, afterStep, notesWithin, notesFrom, Stepping, ends, stops, goes}
-use Rattle.note.specs.declared.reader.Note.{Note}
+use Rattle.note.specs.Notes.{readerFor, noteStep, to, atEnd, nameEnd, descriptorEnd, nextFrom, noteOf}
+use Rattle.note.specs.Walk.{NoteList, stopped, none, onto, afterStep, notesWithin, notesFrom, notesOf, sectionNotes, Stepping, ends, stops, goes}
 use Rattle.note.specs.declared.reader.NoteReader.{NoteReader}
+use Rattle.note.specs.declared.reader.ReaderFor.{ReaderFor}
+use Rattle.note.specs.declared.reader.ReaderFor.the-variants.{Reader}
 use Rattle.note.specs.declared.reader.NoteStep.{NoteStep}
 use Rattle.note.specs.declared.reader.NoteStep.the-variants.{Note as Step·Note, End, Refused}
 use Rattle.note.proofs.Aligned.{aligned-le}
-use Rattle.note.proofs.Steps.{step-end}
+use Rattle.note.proofs.Steps.{step-long, step-end}
 
 -- a note was inside, and the next starts at least 12 bytes further; the end leaves the reader, and a refusal puts it at its end
 abbrev pub Seen : NoteReader → List ℕ → NoteStep → Type 0
@@ -114,3 +117,12 @@ module _ (s : List ℕ) where
   stepping-only r list (stops e) = sym (notesFrom-step r ∙ ap (afterStep (notesFrom s)) e)
   stepping-only r list (goes {note = note} e rest) =
       ap (onto note) (stepping-only _ _ rest) ∙ sym (notesFrom-step r ∙ ap (afterStep (notesFrom s)) e)
+
+  pub section-stepping : (order : Order) (align : ℕ) (r : NoteReader) → readerFor order align ≡ Reader r
+      → Stepping s r (sectionNotes order align s)
+  section-stepping order align r e = by (ltb limit (length s)) refl
+    where
+      by : (long : Bool) → ltb limit (length s) ≡ long
+          → Stepping s r (cond long (none (stopped tooLong)) (notesOf s (readerFor order align)))
+      by true long = stops (step-long r s (ltb-true limit (length s) long))
+      by false fits = subst (λ (x : ReaderFor). Stepping s r (notesOf s x)) (sym e) (stepping r)

@@ -15,7 +15,6 @@ use mathlib.Core.List.{List}
 use lib.Dec.{eqb, leb, ltb}
 use lib.ListN.{length}
 use Rattle.endian.specs.declared.kinds.Order.{Order}
-use Rattle.endian.specs.declared.refusals.Refusal.{Refusal}
 use Rattle.endian.specs.Refusals.{limit, tooLong, noteShort, badNoteName, badNoteDescriptor, badNoteAlignment}
 use Rattle.endian.specs.Word.{Field, fieldAt}
 use Rattle.note.specs.declared.reader.Align.{Align}

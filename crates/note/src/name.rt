@@ -1,10 +1,10 @@
 // A note's name, without the zeros at its end.
 ghost use mathlib.Core.Path.{_≡_};
-ghost use Rattle.note.specs.Trim.{trimmedOf, isGnu};
+ghost use Rattle.note.specs.Trim.{partOf, trimmedPart, isGnu};
 
-// The front part of the name without its trailing zeros.
+// The front part of the name without its trailing zeros: a part of the lent bytes, and no copy.
 pub fn trimmed(name: &[u8]) -> &[u8]
-    ensures { λ r. ⌜ now r ≡ trimmedOf (now (name .entry)) ⌝ }
+    ensures { λ r. ⌜ partOf r ≡ trimmedPart (name .entry) ⌝ }
 {
     let mut n = name.len();
     while 0 < n {

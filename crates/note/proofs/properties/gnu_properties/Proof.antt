@@ -1,5 +1,5 @@
 -- `note::properties::gnu_properties` meets its contract. Each answer is the one that its tests pick. Assumes nothing.
-use mathlib.Core.Path.{_≡_, sym, _∙_}
+use mathlib.Core.Path.{sym, _∙_}
 use borrow.Author.Tests.{lt-ltb, le-ltb, eq-eqb, ne-eqb}
 use borrow.Author.Needs.{needs}
 use Rattle.note.proofs.properties.gnu_properties.Statement.{statement}

@@ -1,7 +1,6 @@
 -- `note::reader::NoteReader::step` meets its contract. Each answer is the one that its tests pick. Assumes nothing.
-use mathlib.Core.Path.{_≡_, sym, ap, _∙_}
+use mathlib.Core.Path.{sym, ap, _∙_}
 use Rattle.endian.specs.Refusals.{tooLong, noteShort, badNoteName, badNoteDescriptor}
-use Rattle.note.specs.Notes.{header, namesz, descriptorFrom}
 use Rattle.note.specs.declared.reader.NoteStep.the-variants.{Refused}
 use Rattle.note.proofs.Steps.{name-read, step-long, step-end, step-short, step-name, step-descriptor, step-note}
 use borrow.Author.Needs.{needs}
