@@ -1,0 +1,4 @@
+pub mod Notes
+pub mod Properties
+pub mod Trim
+pub mod Walk

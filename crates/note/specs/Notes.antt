@@ -1,0 +1,94 @@
+-- Notes, as document 01 (module 4, "Layouts") and the gABI ("Note Section") have them. All but a note's places is counted from its own start.
+--     aligned                          the first multiple of the alignment that is no less than a number
+--     readerFor                        the reader before the first note, by the alignment's number
+--     layout, header                   the header's fields
+--     nameEnd                          where the name ends: it starts at 12
+--     descriptorFrom, descriptorEnd    where the descriptor starts, at the aligned end of the name, and where it ends
+--     nextFrom                         where the next note starts, at the aligned end of the descriptor
+--     noteOf                           the note at a reader's place
+--     atEnd                            a refused reader: its place is the end of the bytes
+--     noteStep, readerAfter            what a step finds, and the reader that stands after it
+-- Assumes nothing.
+use Prim.Native.Nat.{ℕ, _+_, _*_, _/_}
+use mathlib.Core.Bool.{cond}
+use mathlib.Core.List.{List}
+use lib.Dec.{eqb, leb, ltb}
+use lib.ListN.{length}
+use Rattle.endian.specs.declared.kinds.Order.{Order}
+use Rattle.endian.specs.Refusals.{limit, tooLong, noteShort, badNoteName, badNoteDescriptor, badNoteAlignment}
+use Rattle.endian.specs.Word.{Field, fieldAt}
+use Rattle.note.specs.declared.reader.Align.{Align}
+use Rattle.note.specs.declared.reader.Align.the-variants.{Four, Eight}
+use Rattle.note.specs.declared.reader.NoteReader.{NoteReader}
+use Rattle.note.specs.declared.reader.ReaderFor.{ReaderFor}
+use Rattle.note.specs.declared.reader.ReaderFor.the-variants.{Reader, Refused as Reader·Refused}
+use Rattle.note.specs.declared.reader.Note.{Note}
+use Rattle.note.specs.declared.reader.NoteStep.{NoteStep}
+use Rattle.note.specs.declared.reader.NoteStep.the-variants.{Note as Step·Note, End, Refused}
+
+abbrev pub aligned : Align → ℕ → ℕ
+aligned Four n = (n + 3) / 4 * 4
+aligned Eight n = (n + 7) / 8 * 8
+
+abbrev pub start : Order → Align → NoteReader
+start order align = record { order = order; align = align; at = 0 }
+
+-- 0 to 4 counts as 4, 8 as 8, all else is refused
+abbrev pub readerFor : Order → ℕ → ReaderFor
+readerFor order n =
+    cond (leb n 4) (Reader (start order Four))
+    (cond (eqb n 8) (Reader (start order Eight))
+    (Reader·Refused badNoteAlignment))
+
+-- the same reader at another place
+abbrev pub to : NoteReader → ℕ → NoteReader
+to reader place = record { order = reader .order; align = reader .align; at = place }
+
+pub data NoteField : Type 0 where
+  namesz descsz kind : NoteField
+
+abbrev pub layout : NoteField → Field
+layout namesz = record { at = 0; width = 4 }
+layout descsz = record { at = 4; width = 4 }
+layout kind = record { at = 8; width = 4 }
+
+abbrev pub header : NoteReader → List ℕ → NoteField → ℕ
+header reader s field = fieldAt (reader .order) s (reader .at) (layout field)
+
+abbrev pub nameEnd : NoteReader → List ℕ → ℕ
+nameEnd reader s = 12 + header reader s namesz
+
+abbrev pub descriptorFrom : NoteReader → List ℕ → ℕ
+descriptorFrom reader s = aligned (reader .align) (nameEnd reader s)
+
+abbrev pub descriptorEnd : NoteReader → List ℕ → ℕ
+descriptorEnd reader s = descriptorFrom reader s + header reader s descsz
+
+abbrev pub nextFrom : NoteReader → List ℕ → ℕ
+nextFrom reader s = aligned (reader .align) (descriptorEnd reader s)
+
+abbrev pub noteOf : NoteReader → List ℕ → Note
+noteOf reader s = record {
+  kind = header reader s kind;
+  name = reader .at + 12;
+  namesz = header reader s namesz;
+  descriptor = reader .at + descriptorFrom reader s;
+  descsz = header reader s descsz;
+}
+
+abbrev pub atEnd : NoteReader → List ℕ → NoteReader
+atEnd reader s = to reader (length s)
+
+unfoldable pub noteStep : NoteReader → List ℕ → NoteStep
+noteStep reader s =
+    cond (ltb limit (length s)) (Refused tooLong (atEnd reader s))
+    (cond (leb (length s) (reader .at)) (End reader)
+    (cond (ltb (length s) (reader .at + 12)) (Refused noteShort (atEnd reader s))
+    (cond (ltb (length s) (reader .at + nameEnd reader s)) (Refused badNoteName (atEnd reader s))
+    (cond (ltb (length s) (reader .at + descriptorEnd reader s)) (Refused badNoteDescriptor (atEnd reader s))
+    (Step·Note (noteOf reader s) (to reader (reader .at + nextFrom reader s)))))))
+
+abbrev pub readerAfter : NoteStep → NoteReader
+readerAfter (Step·Note note next) = next
+readerAfter (End next) = next
+readerAfter (Refused refusal next) = next

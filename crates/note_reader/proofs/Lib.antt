@@ -1,0 +1,2 @@
+-- `Held`: what the walks by hand share.
+mod Held
