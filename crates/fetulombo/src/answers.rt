@@ -44,6 +44,31 @@ pub struct FactsAnswer {
     pub weak: u32,
 }
 
+// A step of a note reader: found is 1 with a note, 0 at the end or where it is refused. next is the
+// place of the reader after it.
+#[repr(C)]
+pub struct NoteAnswer {
+    pub refusal: u32,
+    pub found: u32,
+    pub kind: u64,
+    pub name: u64,
+    pub name_length: u64,
+    pub descriptor: u64,
+    pub descriptor_length: u64,
+    pub next: u64,
+}
+
+// The same of a property reader.
+#[repr(C)]
+pub struct PropertyAnswer {
+    pub refusal: u32,
+    pub found: u32,
+    pub kind: u64,
+    pub start: u64,
+    pub length: u64,
+    pub next: u64,
+}
+
 pub(crate) fn number_answer(value: u64) -> NumberAnswer
     ensures { λ r. ⌜ r ≡ number value ⌝ }
 {

@@ -4,6 +4,7 @@
 pub mod answers;
 pub mod hashes;
 pub mod kinds;
+pub mod notes;
 pub mod string_tables;
 pub mod symbols;
 pub mod words;
