@@ -79,7 +79,8 @@ returns-5 c =
     let args = inside .before .before .before .args in
     let from : next .align-up .result ≡ nextFrom (args .self) (args .bytes .now) = cc in
     let read = c .before .u32-at2 .ensures ∙ kind-read (args .self) (args .bytes .now) in
-    rw (step-property (args .self) (args .bytes .now) (inside .before .if1 .left) (inside .if2 .left) (rw from at (c .before .before .if4 .left))) (
+    rw (step-property (args .self) (args .bytes .now) (inside .before .if1 .left) (inside .if2 .left)
+    (rw from at (c .before .before .if4 .left))) (
     rw (c .moved4 .ensures, read, from, sized .u32-at .ensures))
 
 pub step-spec : {M : Type 1} → statement M
