@@ -34,7 +34,8 @@ zeros-after (b ∷ s) zero h = by (eqb (trimmedLength s) 0) (eqb b 0) refl h
     by false u f g = absurd (omega arith)
 zeros-after (b ∷ s) (suc k) h = zeros-after s k (by (eqb (trimmedLength s) 0) refl (eqb b 0) h)
   where
-    by : (t : Bool) → eqb (trimmedLength s) 0 ≡ t → (u : Bool) → cond t (cond u 0 1) (suc (trimmedLength s)) ≤ suc k → trimmedLength s ≤ k
+    by : (t : Bool) → eqb (trimmedLength s) 0 ≡ t → (u : Bool) → cond t (cond u 0 1) (suc (trimmedLength s)) ≤ suc k
+        → trimmedLength s ≤ k
     by true e u g = omega (arith, eqb-true (trimmedLength s) 0 e)
     by false e u g = omega arith
 
@@ -43,7 +44,8 @@ unfolding trimmedLength
 trimmed-nonzero [] k e z = omega arith
 trimmed-nonzero (b ∷ s) zero e z = by (eqb (trimmedLength s) 0) refl (eqb b 0) refl e
   where
-    by : (t : Bool) → eqb (trimmedLength s) 0 ≡ t → (u : Bool) → eqb b 0 ≡ u → cond t (cond u 0 1) (suc (trimmedLength s)) ≡ 1 → ⊥
+    by : (t : Bool) → eqb (trimmedLength s) 0 ≡ t → (u : Bool) → eqb b 0 ≡ u
+        → cond t (cond u 0 1) (suc (trimmedLength s)) ≡ 1 → ⊥
     by true f true g h = omega arith
     by true f false g h = eqb-false b 0 g z
     by false f u g h = eqb-false (trimmedLength s) 0 f (omega arith)
@@ -54,7 +56,8 @@ trimmed-nonzero (b ∷ s) (suc k) e z = trimmed-nonzero s k (by (eqb (trimmedLen
     by true false h = absurd (omega arith)
     by false u h = omega arith
 
-pub trimmed-longest : (name : List ℕ) → Unpadded name (trimmedLength name) × ((n : ℕ) → Unpadded name n → n ≤ trimmedLength name)
+pub trimmed-longest : (name : List ℕ) → Unpadded name (trimmedLength name) ×
+    ((n : ℕ) → Unpadded name n → n ≤ trimmedLength name)
 trimmed-longest name = ((trimmed-le name, λ some. trimmed-nonzero name (trimmedLength name - 1) (omega arith)), longest)
   where
     longest : (n : ℕ) → Unpadded name n → n ≤ trimmedLength name

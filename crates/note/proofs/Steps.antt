@@ -44,7 +44,8 @@ module _ (r : NoteReader) (s : List ℕ) where
           lt-ltb (length s) (r .at + nameEnd r s) (omega arith),
         )
 
-        module _ (name : 12 + n ≤ length s - r .at) (d m : ℕ) (from : d ≡ descriptorFrom r s) (sized : m ≡ header r s descsz) where
+        module _ (name : 12 + n ≤ length s - r .at) (d m : ℕ) (from : d ≡ descriptorFrom r s)
+            (sized : m ≡ header r s descsz) where
           pub step-descriptor : length s - r .at < d + m → noteStep r s ≡ Refused badNoteDescriptor (atEnd r s)
           unfolding noteStep
           step-descriptor few = simp (

@@ -54,8 +54,14 @@ module _ (s : List ℕ) where
       by false false e true name descriptor = refl
       by false false e false true descriptor = refl
       by false false e false false true = refl
-      by false false e false false false =
-          (leb-false (length s) (r .at) e, omega (arith, aligned-le (r .align) (nameEnd r s), aligned-le (r .align) (descriptorEnd r s)))
+      by false false e false false false = (
+        leb-false (length s) (r .at) e,
+        omega (
+          arith,
+          aligned-le (r .align) (nameEnd r s),
+          aligned-le (r .align) (descriptorEnd r s),
+        ),
+      )
 
   pub seen-step : (r : NoteReader) (found : NoteStep) → noteStep r s ≡ found → Seen r s found
   seen-step r found e = rw e at (seen r)
@@ -76,8 +82,10 @@ module _ (s : List ℕ) where
   within-enough (suc m) zero r h k = absurd (omega arith)
   within-enough (suc m) (suc n) r h k = by (within-enough m n) (noteStep r s) refl
     where
-      by : ((next : NoteReader) → length s - next .at < m → length s - next .at < n → notesWithin m s next ≡ notesWithin n s next)
-          → (found : NoteStep) → noteStep r s ≡ found → afterStep (notesWithin m s) found ≡ afterStep (notesWithin n s) found
+      by : ((next : NoteReader) → length s - next .at < m → length s - next .at < n
+          → notesWithin m s next ≡ notesWithin n s next)
+          → (found : NoteStep) → noteStep r s ≡ found
+          → afterStep (notesWithin m s) found ≡ afterStep (notesWithin n s) found
       by rest (Step·Note note next) e =
           let moved = seen-step r (Step·Note note next) e in
           ap (onto note) (rest next (omega arith) (omega arith))
@@ -88,7 +96,8 @@ module _ (s : List ℕ) where
   unfolding notesFrom notesWithin
   notesFrom-step r = by (noteStep r s) refl
     where
-      by : (found : NoteStep) → noteStep r s ≡ found → afterStep (notesWithin (length s) s) found ≡ afterStep (notesFrom s) found
+      by : (found : NoteStep) → noteStep r s ≡ found
+          → afterStep (notesWithin (length s) s) found ≡ afterStep (notesFrom s) found
       by (Step·Note note next) e =
           let moved = seen-step r (Step·Note note next) e in
           ap (onto note) (within-enough (length s) (suc (length s)) next (omega arith) (omega arith))

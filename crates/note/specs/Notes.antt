@@ -1,5 +1,6 @@
--- Notes, as document 01 (module 4, "Layouts") and the gABI ("Note Section") have them. All but a note's places is counted from its own start.
---     aligned                          the first multiple of the alignment that is no less than a number
+-- Notes, as document 01 (module 4, "Layouts") and the gABI ("Note Section") have them.
+-- A note's own places are in the lent bytes; all else is counted from the note's own start.
+--     alignSize, aligned               the bytes of an alignment, and its first multiple that is no less than a number
 --     readerFor                        the reader before the first note, by the alignment's number
 --     layout, header                   the header's fields
 --     nameEnd                          where the name ends: it starts at 12
@@ -25,6 +26,10 @@ use Rattle.note.specs.declared.reader.ReaderFor.the-variants.{Reader, Re
 use Rattle.note.specs.declared.reader.Note.{Note}
 use Rattle.note.specs.declared.reader.NoteStep.{NoteStep}
 use Rattle.note.specs.declared.reader.NoteStep.the-variants.{Note as Step·Note, End, Refused}
+
+abbrev pub alignSize : Align → ℕ
+alignSize Four = 4
+alignSize Eight = 8
 
 abbrev pub aligned : Align → ℕ → ℕ
 aligned Four n = (n + 3) / 4 * 4

@@ -4,7 +4,7 @@
 --     Part, partOf     a lent part: where it starts in memory, and its bytes
 --     trimmedPart      the trimmed front part of a lent name: it starts where the name does
 --     Unpadded         a front part of so many bytes does not end in zero
---     isGnu            whether the trimmed name is `GNU`
+--     gnu, isGnu       the bytes of `GNU`, and whether the trimmed name is that
 -- Assumes nothing.
 use Prim.Native.Nat.{ℕ, suc, _-_, _<_, _≤_}
 use mathlib.Core.Path.{_≡_}

@@ -1,9 +1,10 @@
--- All the notes of a section: the notes in order, and how the walk ends.
+-- All the notes of a section, from the step's definition (01, module 4): the notes in order, and how it ends.
 --     Ending, NoteList       at the end or with a refusal, and the notes before that
+--     none, onto             no notes, and one more in front
 --     afterStep              what a step adds to the list of the reader after it
 --     notesWithin            the list, of so many steps at most
 --     notesFrom              the list from a reader on: each note takes at least 12 bytes, so the length is steps enough
---     sectionNotes           the list of a section, by the alignment's number
+--     notesOf, sectionNotes  the list of a section, by the alignment's number
 --     Stepping               stepping from a reader on gives this list
 -- Assumes nothing.
 use Prim.Native.Nat.{ℕ, zero, suc}
@@ -31,7 +32,6 @@ pub record NoteList : Type 0 where
   pub notes : List Note
   pub ending : Ending
 
--- no notes, and one more in front
 abbrev pub none : Ending → NoteList
 none how = record { notes = []; ending = how }
 

@@ -69,7 +69,7 @@ pub fn reader_for(order: Order, align: u64) -> ReaderFor
     }
 }
 
-// The first multiple of the alignment that is no less than a number.
+// The first multiple of the alignment that is no less than a number below 2^40.
 pub(crate) fn align_up(align: Align, n: usize) -> usize
     requires { ⌜ n < 1099511627776 ⌝ }
     ensures { λ r. ⌜ (r ≡ aligned align n) × (r < n + 8) ⌝ }

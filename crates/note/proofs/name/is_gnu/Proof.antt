@@ -18,7 +18,9 @@ trimmed-requires c κs = search needs
 
 returns : tie.Need-returns
 unfolding isGnu
-returns c = let short = ap bytes-of (c .before .trimmed .ensures) in sym (same-not _ _ (λ e. c .if1 .taken (ap length (short ∙ e))))
+returns c =
+    let short = ap bytes-of (c .before .trimmed .ensures) in
+    sym (same-not _ _ (λ e. c .if1 .taken (ap length (short ∙ e))))
 
 shared-slice-read-if2 : tie.Need-shared-slice-read-if2
 shared-slice-read-if2 c = search needs
@@ -45,7 +47,8 @@ returns-4 : tie.Need-returns-4
 unfolding isGnu
 returns-4 c =
     let called = c .before .before .before .before .before .before in
-    sym (gnu-last (called .trimmed .result .now) (c .before .before .before .before .before .if1 .left) (c .before .before .before .if2 .left) (c .before .if3 .left)) ∙
+    sym (gnu-last (called .trimmed .result .now) (c .before .before .before .before .before .if1 .left)
+    (c .before .before .before .if2 .left) (c .before .if3 .left)) ∙
     ap (λ (p : Part). same (p .bytes) gnu) (called .trimmed .ensures)
 
 pub is-gnu-spec : {M : Type 1} → statement M

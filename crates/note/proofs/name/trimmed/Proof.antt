@@ -1,4 +1,4 @@
--- `note::name::trimmed` meets its contract. The invariant: what was passed are zeros at the end. Assumes nothing.
+-- `note::name::trimmed` meets its contract. The invariant: what was passed are zeros at the end. The measure is what is left. Assumes nothing.
 use native.Mathlib.Omega.{arith}
 use Prim.Native.Nat.{_≤_}
 use mathlib.Core.Path.{_≡_, sym, _∙_}
@@ -34,8 +34,8 @@ returns : tie.Need-returns Inv-loop μ-loop
 returns c =
     let at-loop = c .before .before .before .before in
     let name = at-loop .before .args .name .now in
-    let full = at-loop .loop .inv .1 ∙ trim-all name (at-loop .loop .n) (at-loop .loop .inv .0) (c .before .before .before .loop-test .taken) (c .before .if1 .taken) in
-    rw full
+    let last = trim-all name (at-loop .loop .n) (at-loop .loop .inv .0) (omega arith) (c .before .if1 .taken) in
+    rw (at-loop .loop .inv .1 ∙ last)
 
 sub-n : tie.Need-sub-n Inv-loop μ-loop
 sub-n c = search needs
@@ -47,7 +47,8 @@ loop-again : tie.Need-loop-again Inv-loop μ-loop
 loop-again c =
     let at-loop = c .before .before .before in
     let name = at-loop .before .args .name .now in
-    (search needs, at-loop .loop .inv .1 ∙ trim-less name (at-loop .loop .n) (at-loop .loop .inv .0) (c .before .before .loop-test .taken) (c .if1 .left))
+    let less = trim-less name (at-loop .loop .n) (at-loop .loop .inv .0) (omega arith) (c .if1 .left) in
+    (search needs, at-loop .loop .inv .1 ∙ less)
 
 slice-aggregate-result-2 : tie.Need-slice-aggregate-result-2 Inv-loop μ-loop
 slice-aggregate-result-2 c =

@@ -55,7 +55,8 @@ returns-4 c =
     let next = c .before .before in
     let inside = next .before .before .before .before in
     let args = inside .before .before .before .args in
-    let from : next .align-up .result ≡ nextFrom (args .self) (args .bytes .now) = cc in
+    let from : next .align-up .result ≡ nextFrom (args .self) (args .bytes .now) =
+    rw (next .align-up .ensures .0, next .before .u32-at .ensures, next .before .before .property-align .ensures) in
     ap (Refused badProperty) (c .moved3 .ensures) ∙
     sym (step-refused _ _ (inside .before .if1 .left) (inside .if2 .left) (rw from at (c .before .if4 .taken)))
 
@@ -77,9 +78,11 @@ returns-5 c =
     let sized = next .before in
     let inside = sized .before .before .before in
     let args = inside .before .before .before .args in
-    let from : next .align-up .result ≡ nextFrom (args .self) (args .bytes .now) = cc in
+    let from : next .align-up .result ≡ nextFrom (args .self) (args .bytes .now) =
+    rw (next .align-up .ensures .0, next .before .u32-at .ensures, next .before .before .property-align .ensures) in
     let read = c .before .u32-at2 .ensures ∙ kind-read (args .self) (args .bytes .now) in
-    rw (step-property (args .self) (args .bytes .now) (inside .before .if1 .left) (inside .if2 .left) (rw from at (c .before .before .if4 .left))) (
+    rw (step-property (args .self) (args .bytes .now) (inside .before .if1 .left) (inside .if2 .left)
+    (rw from at (c .before .before .if4 .left))) (
     rw (c .moved4 .ensures, read, from, sized .u32-at .ensures))
 
 pub step-spec : {M : Type 1} → statement M

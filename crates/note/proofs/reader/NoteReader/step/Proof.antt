@@ -1,6 +1,8 @@
 -- `note::reader::NoteReader::step` meets its contract. Each answer is the one that its tests pick. Assumes nothing.
+use Prim.Native.Nat.{ℕ, _+_}
 use mathlib.Core.Path.{sym, ap, _∙_}
 use Rattle.endian.specs.Refusals.{tooLong, noteShort, badNoteName, badNoteDescriptor}
+use Rattle.note.specs.Notes.{aligned}
 use Rattle.note.specs.declared.reader.NoteStep.the-variants.{Refused}
 use Rattle.note.proofs.Steps.{name-read, step-long, step-end, step-short, step-name, step-descriptor, step-note}
 use borrow.Author.Needs.{needs}
@@ -47,7 +49,8 @@ returns-4 c =
     let args = inside .before .before .before .args in
     let name = named .u32-at .ensures ∙ name-read (args .self) (args .bytes .now) in
     ap (Refused badNoteName) (c .moved3 .ensures) ∙
-    sym (step-name _ _ (inside .before .if1 .left) (inside .if2 .left) (named .before .if3 .left) _ name (c .before .if4 .taken))
+    sym (step-name _ _ (inside .before .if1 .left) (inside .if2 .left) (named .before .if3 .left) _ name
+    (c .before .if4 .taken))
 
 add-u32-at : tie.Need-add-u32-at
 add-u32-at c = search needs
@@ -78,8 +81,10 @@ returns-5 c =
     let inside = named .before .before in
     let args = inside .before .before .before .args in
     let name = named .u32-at .ensures ∙ name-read (args .self) (args .bytes .now) in
+    let from = described .align-up .ensures .0 ∙ ap (λ (n : ℕ). aligned (args .self .align) (12 + n)) name in
     ap (Refused badNoteDescriptor) (c .moved4 .ensures) ∙
-    sym (step-descriptor _ _ (inside .before .if1 .left) (inside .if2 .left) (named .before .if3 .left) _ name (sized .before .if4 .left) _ _ (cc) (sized .u32-at2 .ensures) (c .before .if5 .taken))
+    sym (step-descriptor _ _ (inside .before .if1 .left) (inside .if2 .left) (named .before .if3 .left) _ name
+    (sized .before .if4 .left) _ _ from (sized .u32-at2 .ensures) (c .before .if5 .taken))
 
 add-u32-at-2 : tie.Need-add-u32-at-2
 add-u32-at-2 c = search needs
@@ -113,8 +118,18 @@ returns-6 c =
     let inside = named .before .before in
     let args = inside .before .before .before .args in
     let name = named .u32-at .ensures ∙ name-read (args .self) (args .bytes .now) in
-    rw (step-note (args .self) (args .bytes .now) (inside .before .if1 .left) (inside .if2 .left) (named .before .if3 .left) _ name (sized .before .if4 .left) _ _ (cc) (sized .u32-at2 .ensures) (c .before .before .before .if5 .left)) (
-    rw (c .moved5 .ensures, c .before .before .u32-at3 .ensures, c .before .align-up2 .ensures .0, described .align-up .ensures .0, sized .u32-at2 .ensures, name))
+    let from = described .align-up .ensures .0 ∙ ap (λ (n : ℕ). aligned (args .self .align) (12 + n)) name in
+    rw (step-note (args .self) (args .bytes .now) (inside .before .if1 .left) (inside .if2 .left)
+    (named .before .if3 .left) _ name (sized .before .if4 .left) _ _ from (sized .u32-at2 .ensures)
+    (c .before .before .before .if5 .left)) (
+    rw (
+      c .moved5 .ensures,
+      c .before .before .u32-at3 .ensures,
+      c .before .align-up2 .ensures .0,
+      described .align-up .ensures .0,
+      sized .u32-at2 .ensures,
+      name,
+    ))
 
 pub step-spec : {M : Type 1} → statement M
 step-spec =
