@@ -106,6 +106,30 @@ typedef struct {
     uint32_t weak;
 } fetulombo_facts;
 
+/* A step of a note reader. found is 1 with a note; it is 0 at the end of the bytes and where the step
+ * is refused. kind is the note's type; name and descriptor are places in the lent bytes. next is the
+ * place of the next step, also at the end and after a refusal, where it stays at the end. */
+typedef struct {
+    uint32_t refusal;
+    uint32_t found;
+    uint64_t kind;
+    uint64_t name;
+    uint64_t name_length;
+    uint64_t descriptor;
+    uint64_t descriptor_length;
+    uint64_t next;
+} fetulombo_note;
+
+/* The same of a property reader; start and length are the place of the data in the descriptor. */
+typedef struct {
+    uint32_t refusal;
+    uint32_t found;
+    uint64_t kind;
+    uint64_t start;
+    uint64_t length;
+    uint64_t next;
+} fetulombo_property;
+
 /* The word of 2, 4 or 8 bytes at a place. A byte past the end counts as 0. */
 fetulombo_number fetulombo_u16_at(uint8_t order, const uint8_t *bytes, size_t bytes_length, size_t at);
 fetulombo_number fetulombo_u32_at(uint8_t order, const uint8_t *bytes, size_t bytes_length, size_t at);
@@ -142,6 +166,28 @@ fetulombo_facts fetulombo_symbol_facts(uint8_t info, uint8_t other, uint16_t shn
 /* Whether a symbol with these fields defines a function or a data object. */
 fetulombo_number fetulombo_symbol_is_definition(const uint8_t *strings, size_t strings_length, uint32_t name,
                                                 uint8_t info, uint16_t shndx);
+
+/* The note at a place: the first at 0, each further one at the next of the one before. An align of 0 to
+ * 4 counts as 4, and 8 as 8; another is FETULOMBO_BAD_NOTE_ALIGNMENT. Then FETULOMBO_NOTE_SHORT,
+ * FETULOMBO_BAD_NOTE_NAME, FETULOMBO_BAD_NOTE_DESCRIPTOR. */
+fetulombo_note fetulombo_note_step(uint8_t order, uint64_t align, const uint8_t *bytes, size_t bytes_length,
+                                   size_t at);
+
+/* The length of a note's name without its trailing zeros. */
+fetulombo_number fetulombo_trimmed(const uint8_t *name, size_t name_length);
+
+/* Whether a note of this type, name and descriptor holds GNU properties. */
+fetulombo_number fetulombo_gnu_properties(uint8_t note_class, uint8_t order, uint32_t kind, const uint8_t *name,
+                                          size_t name_length, const uint8_t *descriptor,
+                                          size_t descriptor_length);
+
+/* The property at a place of such a descriptor: the first at 0, each further one at the next of the one
+ * before. FETULOMBO_BAD_PROPERTY: it is not whole, its padding included. */
+fetulombo_property fetulombo_property_step(uint8_t note_class, uint8_t order, const uint8_t *descriptor,
+                                           size_t descriptor_length, size_t at);
+
+/* A property's data as a number: its first 4 bytes. FETULOMBO_SHORT_PROPERTY_NUMBER: there are fewer. */
+fetulombo_number fetulombo_property_number(uint8_t order, const uint8_t *part, size_t part_length);
 
 #ifdef __cplusplus
 }

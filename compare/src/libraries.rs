@@ -18,10 +18,12 @@ pub struct Library {
 pub struct Section {
     pub kind: u32,
     pub link: usize,
+    pub align: u64,
     start: usize,
     length: usize,
 }
 
+pub const NOTE: u32 = 7;
 pub const STRTAB: u32 = 3;
 pub const SYMTAB: u32 = 2;
 pub const DYNSYM: u32 = 11;
@@ -43,6 +45,7 @@ impl Library {
                 Section {
                     kind: section.sh_type,
                     link: section.link as usize,
+                    align: section.addralign,
                     start,
                     length,
                 }

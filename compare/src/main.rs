@@ -10,6 +10,7 @@
 mod hashes;
 mod inputs;
 mod libraries;
+mod notes;
 mod record;
 mod report;
 mod strings;
@@ -57,6 +58,7 @@ fn main() -> ExitCode {
     strings::compare(&mut run);
     symbols::compare(&mut run);
     hashes::compare(&mut run);
+    notes::compare(&mut run);
     run.report.print();
     if run.report.differences() == 0 {
         ExitCode::SUCCESS

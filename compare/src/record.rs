@@ -2,9 +2,11 @@
 //! numbers little. Every part of an answer comes from the oracle.
 
 use crate::inputs::{KINDS, Random, big, is64};
+use crate::notes::{property_bytes, section};
 use crate::strings::original_equals;
 use crate::symbols::size;
 use fetulombo::Order;
+use oracle::{NoteStep, PropertyStep};
 use std::path::Path;
 
 /// How many records each list has.
@@ -16,6 +18,13 @@ pub fn write(folder: &Path, seed: u64) {
     std::fs::write(folder.join("strings_replay/stdin"), strings).expect("strings_replay");
     let symbols: Vec<u8> = (0..RECORDS).flat_map(|_| symbol(&mut random)).collect();
     std::fs::write(folder.join("symbol_replay/stdin"), symbols).expect("symbol_replay");
+    let notes: Vec<u8> = (0..RECORDS)
+        .flat_map(|turn| match turn % 4 {
+            0 => property(&mut random),
+            _ => note(&mut random),
+        })
+        .collect();
+    std::fs::write(folder.join("note_replay/stdin"), notes).expect("note_replay");
 }
 
 fn padded(bytes: &[u8], length: usize) -> Vec<u8> {
@@ -108,4 +117,87 @@ fn symbol(random: &mut Random) -> Vec<u8> {
         Err(number) => [number as u8, 0, 0],
     });
     padded(&record, 128)
+}
+
+/// What a step of a walk is recorded as.
+const REFUSED: u8 = 0;
+const FOUND: u8 = 1;
+const END: u8 = 2;
+
+/// 128 bytes: `n`, order, alignment, bytes (their length in 1, then 64); then up to 6 steps of 10
+/// bytes: what, refusal, type in 4, name, its length, descriptor, its length.
+fn note(random: &mut Random) -> Vec<u8> {
+    loop {
+        let order = random.of(&[Order::Little, Order::Big]);
+        let align = random.of(&[4, 4, 8, 8, 0, 3, 5]);
+        let bytes = section(random, order, align, 3);
+        if bytes.len() > 64 {
+            continue;
+        }
+        let mut record = vec![b'n', big(order).into(), align as u8, bytes.len() as u8];
+        record.extend(padded(&bytes, 64));
+        match oracle::notes(true, big(order), align, &bytes) {
+            Err(number) => record.extend([REFUSED, number as u8]),
+            Ok(walk) => {
+                for step in &walk.steps {
+                    match step {
+                        NoteStep::Note(note) => {
+                            record.extend([FOUND, 0]);
+                            record.extend(note.n_type.to_le_bytes());
+                            let (name, descriptor) = (note.name, note.desc);
+                            record.extend([name.0 as u8, name.1 as u8]);
+                            record.extend([descriptor.0 as u8, descriptor.1 as u8]);
+                        }
+                        NoteStep::Refused(number) => {
+                            record.extend(padded(&[REFUSED, *number as u8], 10));
+                        }
+                    }
+                }
+                record.push(END);
+            }
+        }
+        if record.len() <= 128 {
+            return padded(&record, 128);
+        }
+    }
+}
+
+/// 128 bytes: `p`, order, class, a descriptor (its length in 1, then 64); then up to 6 steps of 10
+/// bytes: what, refusal, type in 4, start, length, the number's refusal, its low byte.
+fn property(random: &mut Random) -> Vec<u8> {
+    loop {
+        let (class, order) = random.of(&KINDS);
+        let descriptor = property_bytes(random, order);
+        if descriptor.len() > 64 {
+            continue;
+        }
+        let mut record = vec![b'p', big(order).into(), is64(class).into()];
+        record.push(descriptor.len() as u8);
+        record.extend(padded(&descriptor, 64));
+        let walk = oracle::gnu_properties(is64(class), big(order), 5, b"GNU", &descriptor);
+        for step in walk.expect("this kind").steps {
+            match step {
+                PropertyStep::Property {
+                    pr_type,
+                    data,
+                    number,
+                } => {
+                    record.extend([FOUND, 0]);
+                    record.extend(pr_type.to_le_bytes());
+                    record.extend([data.0 as u8, data.1 as u8]);
+                    record.extend(match number {
+                        Ok(number) => [0, number as u8],
+                        Err(refusal) => [refusal as u8, 0],
+                    });
+                }
+                PropertyStep::Refused(number) => {
+                    record.extend(padded(&[REFUSED, number as u8], 10));
+                }
+            }
+        }
+        record.push(END);
+        if record.len() <= 128 {
+            return padded(&record, 128);
+        }
+    }
 }

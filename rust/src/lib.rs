@@ -5,6 +5,7 @@
 //! found in a lent slice is answered as a part of that slice.
 
 mod hash;
+mod note;
 mod raw;
 mod refusal;
 mod string;
@@ -12,6 +13,9 @@ mod symbol;
 mod word;
 
 pub use hash::{gnu_hash, sysv_hash};
+pub use note::{
+    Note, Notes, Properties, Property, gnu_properties, notes, property_number, trimmed,
+};
 pub use refusal::Refusal;
 pub use string::{string_at, string_equals, string_place};
 pub use symbol::{Symbol, SymbolIndex, symbol_at, symbol_count, symbol_name, symbol_name_place};

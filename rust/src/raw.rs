@@ -40,11 +40,35 @@ pub struct Facts {
     pub weak: u32,
 }
 
+#[repr(C)]
+pub struct Note {
+    pub refusal: u32,
+    pub found: u32,
+    pub kind: u64,
+    pub name: u64,
+    pub name_length: u64,
+    pub descriptor: u64,
+    pub descriptor_length: u64,
+    pub next: u64,
+}
+
+#[repr(C)]
+pub struct Property {
+    pub refusal: u32,
+    pub found: u32,
+    pub kind: u64,
+    pub start: u64,
+    pub length: u64,
+    pub next: u64,
+}
+
 // More than 16 bytes each: handed back through memory.
 const _: () = assert!(size_of::<Number>() == 24);
 const _: () = assert!(size_of::<Place>() == 24);
 const _: () = assert!(size_of::<Symbol>() == 32);
 const _: () = assert!(size_of::<Facts>() == 32);
+const _: () = assert!(size_of::<Note>() == 56);
+const _: () = assert!(size_of::<Property>() == 40);
 
 impl Number {
     pub fn get(self) -> Result<u64, Refusal> {
@@ -102,4 +126,30 @@ unsafe extern "C" {
         info: u8,
         shndx: u16,
     ) -> Number;
+
+    pub fn fetulombo_note_step(
+        order: u8,
+        align: u64,
+        bytes: *const u8,
+        length: usize,
+        at: usize,
+    ) -> Note;
+    pub fn fetulombo_trimmed(name: *const u8, length: usize) -> Number;
+    pub fn fetulombo_gnu_properties(
+        class: u8,
+        order: u8,
+        kind: u32,
+        name: *const u8,
+        name_length: usize,
+        descriptor: *const u8,
+        descriptor_length: usize,
+    ) -> Number;
+    pub fn fetulombo_property_step(
+        class: u8,
+        order: u8,
+        descriptor: *const u8,
+        length: usize,
+        at: usize,
+    ) -> Property;
+    pub fn fetulombo_property_number(order: u8, part: *const u8, length: usize) -> Number;
 }

@@ -85,6 +85,82 @@ fn symbols() {
 }
 
 #[test]
+fn note_walk() {
+    // Big, align 8: a note without name or descriptor, then one whose padding is missing.
+    let mut section = vec![0; 16];
+    section.extend([0, 0, 0, 4, 0, 0, 0, 1, 0, 0, 0, 9]);
+    section.extend(b"ab\0\0!");
+    let mut walk = notes(Order::Big, 8, &section).unwrap();
+    let first = walk.next().unwrap().unwrap();
+    assert_eq!(
+        (first.kind, first.name_bytes(), first.descriptor()),
+        (0, &[][..], &[][..])
+    );
+    assert_eq!(walk.place(), 16);
+    let second = walk.next().unwrap().unwrap();
+    assert_eq!(
+        (second.kind, second.name(), second.descriptor()),
+        (9, &b"ab"[..], &b"!"[..])
+    );
+    assert_eq!(second.name_bytes(), b"ab\0\0");
+    assert_eq!(
+        (second.name_place, second.descriptor_place),
+        (28..32, 32..33)
+    );
+    assert!(walk.next().is_none() && walk.next().is_none());
+
+    let cut = &section[..32];
+    let steps: Vec<_> = notes(Order::Big, 8, cut).unwrap().collect();
+    assert_eq!(steps[1], Err(Refusal::BAD_NOTE_DESCRIPTOR));
+    assert_eq!(steps.len(), 2);
+    assert_eq!(
+        notes(Order::Big, 5, &[]).map(drop),
+        Err(Refusal::BAD_NOTE_ALIGNMENT)
+    );
+    assert_eq!(
+        notes(Order::Big, 16, &[]).map(drop),
+        Err(Refusal::BAD_NOTE_ALIGNMENT)
+    );
+    assert_eq!(notes(Order::Big, 0, &[]).unwrap().count(), 0);
+    assert_eq!(trimmed(b"GNU\0\0"), Ok(&b"GNU"[..]));
+}
+
+#[test]
+fn property_walk() {
+    let descriptor = [2, 0, 0, 0xc0, 4, 0, 0, 0, 3, 0, 0, 0];
+    let walk = |class, part| {
+        gnu_properties(class, Order::Little, 5, b"GNU\0", part)
+            .unwrap()
+            .unwrap()
+    };
+    let all: Vec<_> = walk(Class::Elf32, &descriptor).collect();
+    let [Ok(property)] = &all[..] else {
+        panic!("{all:?}")
+    };
+    assert_eq!((property.kind, property.place.clone()), (0xc0000002, 8..12));
+    assert_eq!(
+        (property.bytes(), property.number()),
+        (&[3, 0, 0, 0][..], Ok(3))
+    );
+    // The padding must be present.
+    let all: Vec<_> = walk(Class::Elf64, &descriptor).collect();
+    assert_eq!(all, [Err(Refusal::BAD_PROPERTY)]);
+    assert_eq!(
+        property_number(Order::Big, &[1, 2, 3]),
+        Err(Refusal::SHORT_PROPERTY_NUMBER)
+    );
+    assert_eq!(
+        property_number(Order::Big, &[1, 2, 3, 4, 5]),
+        Ok(0x01020304)
+    );
+    let other = |kind, name: &[u8]| {
+        gnu_properties(Class::Elf64, Order::Little, kind, name, &descriptor).unwrap()
+    };
+    assert!(other(4, b"GNU\0").is_none() && other(5, b"GNV\0").is_none());
+    assert!(other(5, b"GNU").is_some());
+}
+
+#[test]
 fn too_long_comes_first() {
     let part = vec![0; LIMIT + 1];
     let long = Err(Refusal::TOO_LONG);
@@ -110,6 +186,11 @@ fn too_long_comes_first() {
         symbol_name(class, order, b"", &part, SymbolIndex(0)).map(drop),
         long
     );
+    assert_eq!(notes(order, 5, &part).map(drop), long);
+    assert_eq!(trimmed(&part).map(drop), long);
+    assert_eq!(gnu_properties(class, order, 5, &part, b"").map(drop), long);
+    assert_eq!(gnu_properties(class, order, 5, b"", &part).map(drop), long);
+    assert_eq!(property_number(order, &part).map(drop), long);
     assert_eq!(string_at(&part[1..], 0), Ok(&b""[..]));
     assert_eq!(gnu_hash(&part[1..]).map(drop), Ok(()));
 }

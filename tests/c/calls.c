@@ -20,6 +20,8 @@ _Static_assert(sizeof(fetulombo_number) == 24, "number");
 _Static_assert(sizeof(fetulombo_place) == 24, "place");
 _Static_assert(sizeof(fetulombo_symbol) == 32, "symbol");
 _Static_assert(sizeof(fetulombo_facts) == 32, "facts");
+_Static_assert(sizeof(fetulombo_note) == 56, "note");
+_Static_assert(sizeof(fetulombo_property) == 40, "property");
 
 static void words(void) {
     const uint8_t bytes[] = {1, 2, 3, 4, 5, 6, 7, 8, 9};
@@ -98,6 +100,43 @@ static void symbols(void) {
     same("a mapping symbol", fetulombo_symbol_is_definition((const uint8_t *)"$d", 3, 0, 0, 7).value, 0);
 }
 
+static void notes(void) {
+    /* Little, align 4: name `GNU`, type 5, a descriptor of 16 bytes with one property of 4 bytes. */
+    const uint8_t section[] = {4, 0, 0, 0, 16, 0, 0, 0, 5, 0, 0, 0, 'G', 'N', 'U', 0,
+                               2, 0, 0, 0xc0, 4, 0, 0, 0, 3, 0, 0, 0, 0, 0, 0, 0};
+    fetulombo_note note = fetulombo_note_step(FETULOMBO_LITTLE, 4, section, sizeof section, 0);
+    same("note refusal", note.refusal, 0);
+    same("note found", note.found, 1);
+    same("note kind", note.kind, 5);
+    same("note name", note.name, 12);
+    same("note name length", note.name_length, 4);
+    same("note descriptor", note.descriptor, 16);
+    same("note descriptor length", note.descriptor_length, 16);
+    same("note next", note.next, 32);
+    note = fetulombo_note_step(FETULOMBO_LITTLE, 4, section, sizeof section, 32);
+    same("notes end", note.found + note.refusal, 0);
+    same("notes end stays", note.next, 32);
+    same("note short", fetulombo_note_step(0, 4, section, 11, 0).refusal, FETULOMBO_NOTE_SHORT);
+    same("note short is at its end", fetulombo_note_step(0, 4, section, 11, 0).next, 11);
+    same("note name cut", fetulombo_note_step(0, 4, section, 15, 0).refusal, FETULOMBO_BAD_NOTE_NAME);
+    same("note descriptor cut", fetulombo_note_step(0, 4, section, 31, 0).refusal, FETULOMBO_BAD_NOTE_DESCRIPTOR);
+    same("note alignment", fetulombo_note_step(0, 5, section, 32, 0).refusal, FETULOMBO_BAD_NOTE_ALIGNMENT);
+    same("trimmed", fetulombo_trimmed(section + 12, 4).value, 3);
+    same("this kind", fetulombo_gnu_properties(1, 0, 5, section + 12, 4, section + 16, 16).value, 1);
+    same("another kind", fetulombo_gnu_properties(1, 0, 4, section + 12, 4, section + 16, 16).value, 0);
+    fetulombo_property property = fetulombo_property_step(FETULOMBO_ELF64, FETULOMBO_LITTLE, section + 16, 16, 0);
+    same("property refusal", property.refusal, 0);
+    same("property found", property.found, 1);
+    same("property kind", property.kind, 0xc0000002);
+    same("property start", property.start, 8);
+    same("property length", property.length, 4);
+    same("property next", property.next, 16);
+    same("property padding", fetulombo_property_step(1, 0, section + 16, 12, 0).refusal, FETULOMBO_BAD_PROPERTY);
+    same("property of 32 bits", fetulombo_property_step(0, 0, section + 16, 12, 0).next, 12);
+    same("property number", fetulombo_property_number(0, section + 24, 4).value, 3);
+    same("short number", fetulombo_property_number(0, section + 24, 3).refusal, FETULOMBO_SHORT_PROPERTY_NUMBER);
+}
+
 static void limits(void) {
     const size_t limit = FETULOMBO_LIMIT;
     uint8_t *part = calloc(limit + 1, 1);
@@ -122,6 +161,13 @@ static void limits(void) {
     same("name with strings past it", fetulombo_symbol_name(0, 0, none, 0, part, limit + 1, 0).refusal, FETULOMBO_TOO_LONG);
     same("name with symbols past it", fetulombo_symbol_name(0, 0, part, limit + 1, none, 0, 0).refusal, FETULOMBO_TOO_LONG);
     same("definition past it", fetulombo_symbol_is_definition(part, limit + 1, 0, 0, 0).refusal, FETULOMBO_TOO_LONG);
+    same("note past it", fetulombo_note_step(0, 5, part, limit + 1, 0).refusal, FETULOMBO_TOO_LONG);
+    same("note at the limit", fetulombo_note_step(0, 4, part, limit, limit - 12).found, 1);
+    same("trimmed past it", fetulombo_trimmed(part, limit + 1).refusal, FETULOMBO_TOO_LONG);
+    same("properties past it", fetulombo_gnu_properties(0, 0, 5, part, limit + 1, none, 0).refusal, FETULOMBO_TOO_LONG);
+    same("their descriptor too", fetulombo_gnu_properties(0, 0, 5, none, 0, part, limit + 1).refusal, FETULOMBO_TOO_LONG);
+    same("property past it", fetulombo_property_step(0, 0, part, limit + 1, 0).refusal, FETULOMBO_TOO_LONG);
+    same("number past it", fetulombo_property_number(0, part, limit + 1).refusal, FETULOMBO_TOO_LONG);
     free(part);
 }
 
@@ -130,6 +176,7 @@ int main(void) {
     strings();
     hashes();
     symbols();
+    notes();
     limits();
     if (failures != 0) {
         return 1;
