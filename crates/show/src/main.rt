@@ -1,8 +1,13 @@
-// Prints, of an embedded sample, the hashes of some names and the symbols of a small table.
+// Prints, of an embedded sample, the hashes of some names, the symbols of a small table and the
+// notes of a section.
 use endian::kinds::Class;
 use endian::kinds::Order;
 use libc::STDOUT_FILENO;
 use name_hash::NameHash;
+use note::reader::Note;
+use note::reader::NoteReader;
+use note::reader::NoteStep;
+use note::reader::ReaderFor;
 use strings::StringAt;
 use symbol::entry::Symbol;
 use symbol::table::SymbolAt;
@@ -46,6 +51,11 @@ fn put_hex(n: u64, digits: usize) {
 fn put_refusal(number: u32) {
     put(b"refused ");
     put_decimal(number as u64, 0);
+}
+
+fn refused_row(number: u32) {
+    put_refusal(number);
+    put(b"\n");
 }
 
 fn put_hash(hash: NameHash) {
@@ -119,10 +129,7 @@ fn symbol_row(symbols: &[u8], strings: &[u8], number: u32) {
             put(b"  ");
             put_kind(symbol);
         }
-        SymbolAt::Refused(refusal) => {
-            put_refusal(refusal.0);
-            put(b"\n");
-        }
+        SymbolAt::Refused(refusal) => refused_row(refusal.0),
     }
 }
 
@@ -151,8 +158,61 @@ fn symbols() {
     }
 }
 
+fn note_row(bytes: &[u8], note: Note) {
+    let name = note.name;
+    let namesz = note.namesz;
+    if bytes.len() < name {
+        return;
+    }
+    if bytes.len() - name < namesz {
+        return;
+    }
+    let end = name + namesz;
+    put_left(note::name::trimmed(&bytes[name..end]), 8);
+    put_decimal(note.kind as u64, 4);
+    put_decimal(note.descriptor as u64, 12);
+    put_decimal(note.descsz as u64, 8);
+    put(b"\n");
+}
+
+// The notes from a reader on, at most so many.
+fn note_rows(bytes: &[u8], first: NoteReader, most: u32) {
+    let mut reader = first;
+    let mut left = most;
+    while 0 < left {
+        match reader.step(bytes) {
+            NoteStep::Note(note, next) => {
+                note_row(bytes, note);
+                reader = next;
+            }
+            NoteStep::End(_) => {
+                return;
+            }
+            NoteStep::Refused(refusal, _) => {
+                refused_row(refusal.0);
+                return;
+            }
+        }
+        left -= 1;
+    }
+}
+
+// The notes of the sample, little, aligned to 4: a build number of 4 bytes, and a GNU property that
+// lacks its last bytes.
+fn notes() {
+    let bytes = b"\x04\0\0\0\x04\0\0\0\x03\0\0\0GNU\0\xde\xad\xbe\xef\
+        \x04\0\0\0\x10\0\0\0\x05\0\0\0GNU\0\x02\0\0\xc0\x04\0\0\0";
+    put(b"note    type  descriptor  length\n");
+    match note::reader::reader_for(Order::Little, 4) {
+        ReaderFor::Reader(reader) => note_rows(bytes, reader, 100),
+        ReaderFor::Refused(refusal) => put_refusal(refusal.0),
+    }
+}
+
 fn main() {
     hashes();
     put(b"\n");
     symbols();
+    put(b"\n");
+    notes();
 }
