@@ -2,6 +2,7 @@
 -- Assumes nothing.
 use Prim.Native.Nat.{ℕ}
 use mathlib.Core.Path.{_≡_, refl}
+use mathlib.Core.Bool.{Bool, true, false}
 use mathlib.Core.List.{List, [], _∷_, _++_, map}
 use lib.ListN.{replicate}
 use Rattle.endian.specs.declared.kinds.Class.the-variants.{Elf32, Elf64}
@@ -10,12 +11,15 @@ use Rattle.endian.specs.declared.kinds.Order.the-variants.{Little, Big}
 use Rattle.endian.specs.Refusals.{noteShort, badNoteDescriptor, badNoteAlignment, badProperty}
 use Rattle.endian.specs.Word.{wordAt}
 use Rattle.name_hash.specs.Hash.{gnuHash, sysvHash}
+use Rattle.symbol.specs.declared.table.SymbolIndex.{SymbolIndex}
 use Rattle.note.specs.declared.properties.Property.{Property}
 use Rattle.note.specs.declared.properties.PropertyStep.the-variants.{Property as Step·Property, Refused}
 use Rattle.note.specs.declared.reader.Note.{Note}
 use Rattle.note.specs.Notes.{noteStep}
 use Rattle.note.specs.Properties.{propertyStep, start, to}
 use Rattle.note.specs.Walk.{none, onto, ended, stopped, notesWithin, notesFrom, sectionNotes}
+use Rattle.version.specs.declared.table.Need.{Need}
+use Rattle.version.specs.Table.{storedAt, valid, entryAt, versymAt, matching}
 
 -- the names `a`, `b` and `ab`
 abbrev a : List ℕ
@@ -88,3 +92,32 @@ properties : (order : Order)
 unfolding zeros four bytes property wordAt propertyStep
 properties Little = (refl, refl, refl)
 properties Big = (refl, refl, refl)
+
+-- a version table whose entry 2 is a definition of hash 97 and name `a`, and the versyms of one symbol: 0x8002
+abbrev store : List ℕ
+store = replicate 12 0 ++ (1 ∷ 97 ∷ 0 ∷ 1 ∷ 0 ∷ 0 ∷ [])
+
+abbrev strings : List ℕ
+strings = 97 ∷ 0 ∷ []
+
+abbrev versyms : Order → List ℕ
+versyms Little = 0x02 ∷ 0x80 ∷ []
+versyms Big = 0x80 ∷ 0x02 ∷ []
+
+abbrev first : SymbolIndex
+first = record { 0 = 0 }
+
+-- versym 0x8002, entry 2 valid: without need no, with equal need yes
+hidden-version : (order : Order)
+    → matching order (versyms order) store strings first Need.Any [] ∷ matching order (versyms order) store strings first (Need.Hash 97) a ∷ []
+    ≡ false ∷ true ∷ []
+unfolding wordAt storedAt valid entryAt versymAt matching
+hidden-version Little = refl
+hidden-version Big = refl
+
+-- no versym: without need yes, with need no
+no-versym : (order : Order)
+    → matching order [] store strings first Need.Any [] ∷ matching order [] store strings first (Need.Hash 97) a ∷ []
+    ≡ true ∷ false ∷ []
+unfolding wordAt storedAt valid entryAt versymAt matching
+no-versym order = refl
