@@ -20,8 +20,8 @@ pub struct Stepped<'a> {
 
 // What a step found, and the reader after it.
 struct Moved {
-    pub answer: NoteStep,
-    pub next: NoteReader,
+    answer: NoteStep,
+    next: NoteReader,
 }
 
 // A step, with the reader after it beside the answer.

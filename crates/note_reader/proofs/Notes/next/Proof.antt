@@ -1,5 +1,5 @@
--- `note_reader::Notes::next` meets its contract: a walk of its MIR, by hand. The covered `NoteReader::step` is called, and of the
--- slice and the reader that it hands back a struct is made, which is a field of the result beside the answer.
+-- `note_reader::Notes::next` meets its contract: a walk of its MIR, by hand. The covered `step_of` is called, and of the slice and the
+-- reader that it hands back a `Notes` is made, which is a field of the result beside the answer.
 -- What the callee's result owns is facts alone, made anew for each field. The machine value that the callee returned is rewritten
 -- to the result's own, so that its fields can be read. Assumes nothing.
 use mathlib.Core.Path.{_≡_, refl, ap}
