@@ -69,6 +69,27 @@ pub struct PropertyAnswer {
     pub next: u64,
 }
 
+// What stands behind a version index: special is 1 for the indices 0 and 1, which name no version.
+#[repr(C)]
+pub struct VersionAnswer {
+    pub refusal: u32,
+    pub special: u32,
+    pub kind: u32,
+    pub hash: u32,
+    pub name: u32,
+    pub name_length: u32,
+    pub file: u32,
+    pub file_length: u32,
+}
+
+// What a symbol's versym says; hidden is 0 or 1.
+#[repr(C)]
+pub struct VersymAnswer {
+    pub refusal: u64,
+    pub index: u64,
+    pub hidden: u64,
+}
+
 pub(crate) fn number_answer(value: u64) -> NumberAnswer
     ensures { λ r. ⌜ r ≡ number value ⌝ }
 {

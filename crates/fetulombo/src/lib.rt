@@ -7,4 +7,5 @@ pub mod kinds;
 pub mod notes;
 pub mod string_tables;
 pub mod symbols;
+pub mod versions;
 pub mod words;
