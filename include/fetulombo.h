@@ -1,7 +1,7 @@
 /* Fetulombo: which symbol of an ELF library a name and a version bind to.
  *
  * Link libfetulombo.a (x86-64 Linux). The functions keep nothing, allocate nothing and write to no
- * lent memory. Each is proved, on the abstract machine of its language, to answer what its
+ * lent memory, but for fetulombo_versions_parse, which fills the store. Each is proved, on the abstract machine of its language, to answer what its
  * definition says; this header and the C calls are tested.
  *
  * A slice is passed as a pointer and a length. The pointer is never null; that of an empty slice may
@@ -130,6 +130,26 @@ typedef struct {
     uint64_t next;
 } fetulombo_property;
 
+/* The version behind an index. special is 1 for the indices 0 and 1, which name no version. kind is 1 for
+ * a definition and 2 for a need; name and, of a need, file are places in the versions' strings. */
+typedef struct {
+    uint32_t refusal;
+    uint32_t special;
+    uint32_t kind;
+    uint32_t hash;
+    uint32_t name;
+    uint32_t name_length;
+    uint32_t file;
+    uint32_t file_length;
+} fetulombo_version;
+
+/* The version of a symbol; hidden is 0 or 1. */
+typedef struct {
+    uint64_t refusal;
+    uint64_t index;
+    uint64_t hidden;
+} fetulombo_versym;
+
 /* The word of 2, 4 or 8 bytes at a place. A byte past the end counts as 0. */
 fetulombo_number fetulombo_u16_at(uint8_t order, const uint8_t *bytes, size_t bytes_length, size_t at);
 fetulombo_number fetulombo_u32_at(uint8_t order, const uint8_t *bytes, size_t bytes_length, size_t at);
@@ -188,6 +208,37 @@ fetulombo_property fetulombo_property_step(uint8_t note_class, uint8_t order, co
 
 /* A property's data as a number: its first 4 bytes. FETULOMBO_SHORT_PROPERTY_NUMBER: there are fewer. */
 fetulombo_number fetulombo_property_number(uint8_t order, const uint8_t *part, size_t part_length);
+
+/* Numbers of a version in the store: kind, hash, name start, name length, file start, file length. */
+#define FETULOMBO_ENTRY 6
+
+/* Parses the definitions (Verdef) and the needs (Verneed) into the store, which has store_length numbers
+ * of 4 bytes and is aligned to them; an absent section has length 0. The answer is the highest index, and
+ * the store then holds FETULOMBO_ENTRY numbers for each index up to it, and 0 in every further number.
+ * Refused in this order: FETULOMBO_TOO_LONG; FETULOMBO_VERDEF_SHORT to FETULOMBO_BAD_VERDEF_NEXT, then
+ * FETULOMBO_VERNEED_SHORT to FETULOMBO_BAD_VERNAUX_NEXT; FETULOMBO_STORE_TOO_SMALL;
+ * FETULOMBO_VERDAUX_SHORT, FETULOMBO_BAD_VERDAUX_NEXT, and FETULOMBO_BAD_VERDAUX_NAME to
+ * FETULOMBO_BAD_VERNAUX_NAME. After a refusal the whole store is 0. 393,216 numbers are always enough. */
+fetulombo_number fetulombo_versions_parse(uint8_t order, const uint8_t *verdef, size_t verdef_length,
+                                          const uint8_t *verneed, size_t verneed_length,
+                                          const uint8_t *strings, size_t strings_length, uint32_t *store,
+                                          size_t store_length);
+
+/* The version behind an index of a store, which may hold anything. FETULOMBO_BAD_VERSION_INDEX: past the
+ * whole entries, of another kind, or with a name or a file outside the strings. */
+fetulombo_version fetulombo_version_entry(const uint32_t *store, size_t store_length, const uint8_t *strings,
+                                          size_t strings_length, uint16_t index);
+
+/* The version of a symbol: its versym, or index 1 where there is none. */
+fetulombo_versym fetulombo_version_of(uint8_t order, const uint8_t *versyms, size_t versyms_length,
+                                      uint32_t symbol);
+
+/* Whether the version of a symbol is the one that is needed. With needed 0 any version will do that is
+ * not hidden, and hash and name are not looked at; otherwise hash and name must be equal. */
+fetulombo_number fetulombo_version_matches(uint8_t order, const uint8_t *versyms, size_t versyms_length,
+                                           const uint32_t *store, size_t store_length, const uint8_t *strings,
+                                           size_t strings_length, uint32_t symbol, uint8_t needed,
+                                           uint32_t hash, const uint8_t *name, size_t name_length);
 
 #ifdef __cplusplus
 }

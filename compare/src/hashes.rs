@@ -3,14 +3,10 @@
 
 use crate::Run;
 use crate::inputs::{is64, lists};
-use crate::libraries::{DYNSYM, GNU_HASH, Library};
+use crate::libraries::{DYNSYM, GNU_HASH, Library, VERDEF, VERNEED, VERSYM};
 use crate::report::hex;
 use crate::symbols::size;
 use fetulombo::{Class, LIMIT, Order, gnu_hash, sysv_hash};
-
-const VERSYM: u32 = 0x6fff_ffff;
-const VERDEF: u32 = 0x6fff_fffd;
-const VERNEED: u32 = 0x6fff_fffe;
 
 pub fn compare(run: &mut Run) {
     let all: Vec<u8> = (0..=255).collect();

@@ -28,6 +28,9 @@ pub const STRTAB: u32 = 3;
 pub const SYMTAB: u32 = 2;
 pub const DYNSYM: u32 = 11;
 pub const GNU_HASH: u32 = 0x6fff_fff6;
+pub const VERDEF: u32 = 0x6fff_fffd;
+pub const VERNEED: u32 = 0x6fff_fffe;
+pub const VERSYM: u32 = 0x6fff_ffff;
 
 impl Library {
     fn open(path: &Path) -> Option<Self> {

@@ -15,6 +15,7 @@ mod record;
 mod report;
 mod strings;
 mod symbols;
+mod versions;
 mod words;
 
 use inputs::Random;
@@ -59,6 +60,7 @@ fn main() -> ExitCode {
     symbols::compare(&mut run);
     hashes::compare(&mut run);
     notes::compare(&mut run);
+    versions::compare(&mut run);
     run.report.print();
     if run.report.differences() == 0 {
         ExitCode::SUCCESS

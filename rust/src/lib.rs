@@ -10,6 +10,7 @@ mod raw;
 mod refusal;
 mod string;
 mod symbol;
+mod version;
 mod word;
 
 pub use hash::{gnu_hash, sysv_hash};
@@ -19,6 +20,9 @@ pub use note::{
 pub use refusal::Refusal;
 pub use string::{string_at, string_equals, string_place};
 pub use symbol::{Symbol, SymbolIndex, symbol_at, symbol_count, symbol_name, symbol_name_place};
+pub use version::{
+    ENTRY, LARGEST_STORE, Needed, Version, VersionIndex, Versions, Versym, versions_parse,
+};
 pub use word::{u16_at, u32_at, u64_at};
 
 /// The most bytes that a lent part may have.

@@ -62,6 +62,25 @@ pub struct Property {
     pub next: u64,
 }
 
+#[repr(C)]
+pub struct Version {
+    pub refusal: u32,
+    pub special: u32,
+    pub kind: u32,
+    pub hash: u32,
+    pub name: u32,
+    pub name_length: u32,
+    pub file: u32,
+    pub file_length: u32,
+}
+
+#[repr(C)]
+pub struct Versym {
+    pub refusal: u64,
+    pub index: u64,
+    pub hidden: u64,
+}
+
 // More than 16 bytes each: handed back through memory.
 const _: () = assert!(size_of::<Number>() == 24);
 const _: () = assert!(size_of::<Place>() == 24);
@@ -69,6 +88,8 @@ const _: () = assert!(size_of::<Symbol>() == 32);
 const _: () = assert!(size_of::<Facts>() == 32);
 const _: () = assert!(size_of::<Note>() == 56);
 const _: () = assert!(size_of::<Property>() == 40);
+const _: () = assert!(size_of::<Version>() == 32);
+const _: () = assert!(size_of::<Versym>() == 24);
 
 impl Number {
     pub fn get(self) -> Result<u64, Refusal> {
@@ -152,4 +173,43 @@ unsafe extern "C" {
         at: usize,
     ) -> Property;
     pub fn fetulombo_property_number(order: u8, part: *const u8, length: usize) -> Number;
+
+    pub fn fetulombo_versions_parse(
+        order: u8,
+        verdef: *const u8,
+        verdef_length: usize,
+        verneed: *const u8,
+        verneed_length: usize,
+        strings: *const u8,
+        strings_length: usize,
+        store: *mut u32,
+        store_length: usize,
+    ) -> Number;
+    pub fn fetulombo_version_entry(
+        store: *const u32,
+        store_length: usize,
+        strings: *const u8,
+        strings_length: usize,
+        index: u16,
+    ) -> Version;
+    pub fn fetulombo_version_of(
+        order: u8,
+        versyms: *const u8,
+        length: usize,
+        symbol: u32,
+    ) -> Versym;
+    pub fn fetulombo_version_matches(
+        order: u8,
+        versyms: *const u8,
+        versyms_length: usize,
+        store: *const u32,
+        store_length: usize,
+        strings: *const u8,
+        strings_length: usize,
+        symbol: u32,
+        needed: u8,
+        hash: u32,
+        name: *const u8,
+        name_length: usize,
+    ) -> Number;
 }

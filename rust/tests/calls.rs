@@ -161,6 +161,75 @@ fn property_walk() {
 }
 
 #[test]
+fn version_table() {
+    // Big: one definition of index 2, hash 7, whose name is `a`; one need of index 3, hash 8, name
+    // `b`, file `f`.
+    let verdef = [
+        0, 1, 0, 0, 0, 2, 0, 1, 0, 0, 0, 7, 0, 0, 0, 20, 0, 0, 0, 0, 0, 0, 0, 1, 0, 0, 0, 0,
+    ];
+    let verneed = [
+        0, 1, 0, 1, 0, 0, 0, 5, 0, 0, 0, 16, 0, 0, 0, 0, 0, 0, 0, 8, 0, 0, 0x80, 3, 0, 0, 0, 3, 0,
+        0, 0, 0,
+    ];
+    let strings = b"\0a\0b\0f\0";
+    let mut store = [9; 26];
+    let highest = versions_parse(Order::Big, &verdef, &verneed, strings, &mut store);
+    assert_eq!(highest, Ok(VersionIndex(3)));
+    assert_eq!(store[..12], [0; 12]);
+    assert_eq!(store[12..24], [1, 7, 1, 1, 0, 0, 2, 8, 3, 1, 5, 1]);
+    assert_eq!(store[24..], [0, 0]);
+
+    let versions = Versions {
+        order: Order::Big,
+        versyms: &[0, 0, 0x80, 2, 0, 3],
+        store: &store,
+        strings,
+    };
+    let definition = Version::Definition {
+        hash: 7,
+        name: 1..2,
+    };
+    assert_eq!(versions.entry(VersionIndex(2)), Ok(Some(definition)));
+    let need = Version::Need {
+        hash: 8,
+        name: 3..4,
+        file: 5..6,
+    };
+    assert_eq!(versions.entry(VersionIndex(3)), Ok(Some(need)));
+    assert_eq!(versions.entry(VersionIndex(1)), Ok(None));
+    assert_eq!(
+        versions.entry(VersionIndex(4)),
+        Err(Refusal::BAD_VERSION_INDEX)
+    );
+    let versym = Versym {
+        index: VersionIndex(2),
+        hidden: true,
+    };
+    assert_eq!(versions.version_of(SymbolIndex(1)), Ok(versym));
+    let versym = Versym {
+        index: VersionIndex(1),
+        hidden: false,
+    };
+    assert_eq!(versions.version_of(SymbolIndex(3)), Ok(versym));
+    let a = Some(Needed {
+        name: b"a",
+        hash: 7,
+    });
+    assert_eq!(versions.matches(SymbolIndex(1), a), Ok(true));
+    assert_eq!(versions.matches(SymbolIndex(1), None), Ok(false));
+    assert_eq!(versions.matches(SymbolIndex(2), None), Ok(true));
+    assert_eq!(versions.matches(SymbolIndex(2), a), Ok(false));
+    assert_eq!(Versions::NONE.matches(SymbolIndex(1), None), Ok(true));
+    assert_eq!(Versions::NONE.matches(SymbolIndex(1), a), Ok(false));
+
+    // A refusal leaves 0 throughout.
+    let mut store = [9; 23];
+    let refused = versions_parse(Order::Big, &verdef, &verneed, strings, &mut store);
+    assert_eq!(refused, Err(Refusal::STORE_TOO_SMALL));
+    assert_eq!(store, [0; 23]);
+}
+
+#[test]
 fn too_long_comes_first() {
     let part = vec![0; LIMIT + 1];
     let long = Err(Refusal::TOO_LONG);
@@ -191,6 +260,25 @@ fn too_long_comes_first() {
     assert_eq!(gnu_properties(class, order, 5, &part, b"").map(drop), long);
     assert_eq!(gnu_properties(class, order, 5, b"", &part).map(drop), long);
     assert_eq!(property_number(order, &part).map(drop), long);
+    let mut store = [9; 6];
+    assert_eq!(
+        versions_parse(order, &part, b"", b"", &mut store).map(drop),
+        long
+    );
+    assert_eq!(store, [0; 6]);
+    let versions = Versions {
+        strings: &part,
+        versyms: &part,
+        ..Versions::NONE
+    };
+    assert_eq!(versions.entry(VersionIndex(0)).map(drop), long);
+    assert_eq!(versions.version_of(SymbolIndex(0)).map(drop), long);
+    assert_eq!(versions.matches(SymbolIndex(0), None).map(drop), long);
+    let need = Some(Needed {
+        name: &part,
+        hash: 0,
+    });
+    assert_eq!(Versions::NONE.matches(SymbolIndex(0), need).map(drop), long);
     assert_eq!(string_at(&part[1..], 0), Ok(&b""[..]));
     assert_eq!(gnu_hash(&part[1..]).map(drop), Ok(()));
 }

@@ -22,6 +22,8 @@ _Static_assert(sizeof(fetulombo_symbol) == 32, "symbol");
 _Static_assert(sizeof(fetulombo_facts) == 32, "facts");
 _Static_assert(sizeof(fetulombo_note) == 56, "note");
 _Static_assert(sizeof(fetulombo_property) == 40, "property");
+_Static_assert(sizeof(fetulombo_version) == 32, "version");
+_Static_assert(sizeof(fetulombo_versym) == 24, "versym");
 
 static void words(void) {
     const uint8_t bytes[] = {1, 2, 3, 4, 5, 6, 7, 8, 9};
@@ -137,6 +139,57 @@ static void notes(void) {
     same("short number", fetulombo_property_number(0, section + 24, 3).refusal, FETULOMBO_SHORT_PROPERTY_NUMBER);
 }
 
+static void versions(void) {
+    /* Little: one definition of index 2, hash 0x61, whose name is `a`; one need of index 3, name `b`, file `f`. */
+    const uint8_t verdef[28] = {1, 0, 0, 0, 2, 0, 1, 0, 0x61, 0, 0, 0, 20, 0, 0, 0, 0, 0, 0, 0, 1};
+    const uint8_t verneed[32] = {1, 0, 1, 0, 5, 0, 0, 0, 16, 0, 0, 0, 0, 0, 0, 0,
+                                 0x62, 0, 0, 0, 0, 0, 3, 0x80, 3};
+    const uint8_t names[] = "\0a\0b\0f";
+    uint32_t store[25];
+    memset(store, 0xff, sizeof store);
+    fetulombo_number highest =
+        fetulombo_versions_parse(FETULOMBO_LITTLE, verdef, 28, verneed, 32, names, sizeof names, store, 25);
+    same("parse refusal", highest.refusal, 0);
+    same("parse highest", highest.value, 3);
+    const uint32_t wanted[25] = {[12] = 1, 0x61, 1, 1, 0, 0, 2, 0x62, 3, 1, 5, 1};
+    same("parse store", (uint64_t)memcmp(store, wanted, sizeof store), 0);
+    fetulombo_version version = fetulombo_version_entry(store, 25, names, sizeof names, 3);
+    same("entry refusal", version.refusal + version.special, 0);
+    same("entry kind", version.kind, 2);
+    same("entry hash", version.hash, 0x62);
+    same("entry name", version.name, 3);
+    same("entry name length", version.name_length, 1);
+    same("entry file", version.file, 5);
+    same("entry file length", version.file_length, 1);
+    same("entry special", fetulombo_version_entry(store, 25, names, sizeof names, 1).special, 1);
+    same("entry past", fetulombo_version_entry(store, 25, names, sizeof names, 4).refusal, FETULOMBO_BAD_VERSION_INDEX);
+    same("entry outside", fetulombo_version_entry(store, 25, names, 5, 3).refusal, FETULOMBO_BAD_VERSION_INDEX);
+    const uint8_t versyms[] = {0, 0, 2, 0x80, 3, 0, 1};
+    fetulombo_versym versym = fetulombo_version_of(FETULOMBO_LITTLE, versyms, sizeof versyms, 1);
+    same("versym refusal", versym.refusal, 0);
+    same("versym index", versym.index, 2);
+    same("versym hidden", versym.hidden, 1);
+    same("no versym", fetulombo_version_of(FETULOMBO_LITTLE, versyms, sizeof versyms, 3).index, 1);
+    const uint8_t *a = (const uint8_t *)"a";
+    same("hidden, no need", fetulombo_version_matches(0, versyms, 7, store, 25, names, 7, 1, 0, 0, a, 0).value, 0);
+    same("hidden, equal need", fetulombo_version_matches(0, versyms, 7, store, 25, names, 7, 1, 1, 0x61, a, 1).value, 1);
+    same("another hash", fetulombo_version_matches(0, versyms, 7, store, 25, names, 7, 1, 1, 0x62, a, 1).value, 0);
+    same("not hidden", fetulombo_version_matches(0, versyms, 7, store, 25, names, 7, 2, 0, 0, a, 0).value, 1);
+    same("no versym, no need", fetulombo_version_matches(0, versyms, 7, store, 25, names, 7, 3, 0, 0, a, 0).value, 1);
+    same("no versym, a need", fetulombo_version_matches(0, versyms, 7, store, 25, names, 7, 3, 1, 0x61, a, 1).value, 0);
+    /* Highest index 2: 18 numbers pass, 17 give 22; no records need 6. A refusal leaves 0. */
+    same("18 numbers", fetulombo_versions_parse(0, verdef, 28, verneed, 0, names, 7, store, 18).refusal, 0);
+    memset(store, 0xff, sizeof store);
+    same("17 numbers", fetulombo_versions_parse(0, verdef, 28, verneed, 0, names, 7, store, 17).refusal,
+         FETULOMBO_STORE_TOO_SMALL);
+    for (int i = 0; i < 25; i++) {
+        same("store after a refusal", store[i], i < 17 ? 0 : 0xffffffff);
+    }
+    same("6 numbers", fetulombo_versions_parse(0, verdef, 0, verneed, 0, names, 0, store, 6).refusal, 0);
+    same("5 numbers", fetulombo_versions_parse(0, verdef, 0, verneed, 0, names, 0, store, 5).refusal,
+         FETULOMBO_STORE_TOO_SMALL);
+}
+
 static void limits(void) {
     const size_t limit = FETULOMBO_LIMIT;
     uint8_t *part = calloc(limit + 1, 1);
@@ -168,6 +221,19 @@ static void limits(void) {
     same("their descriptor too", fetulombo_gnu_properties(0, 0, 5, none, 0, part, limit + 1).refusal, FETULOMBO_TOO_LONG);
     same("property past it", fetulombo_property_step(0, 0, part, limit + 1, 0).refusal, FETULOMBO_TOO_LONG);
     same("number past it", fetulombo_property_number(0, part, limit + 1).refusal, FETULOMBO_TOO_LONG);
+    uint32_t store[12];
+    memset(store, 0xff, sizeof store);
+    same("definitions past it", fetulombo_versions_parse(0, part, limit + 1, none, 0, none, 0, store, 12).refusal,
+         FETULOMBO_TOO_LONG);
+    same("store after it", store[0] | store[11], 0);
+    same("needs past it", fetulombo_versions_parse(0, none, 0, part, limit + 1, none, 0, store, 12).refusal,
+         FETULOMBO_TOO_LONG);
+    same("their strings too", fetulombo_versions_parse(0, none, 0, none, 0, part, limit + 1, store, 12).refusal,
+         FETULOMBO_TOO_LONG);
+    same("entry past it", fetulombo_version_entry(store, 12, part, limit + 1, 0).refusal, FETULOMBO_TOO_LONG);
+    same("versyms past it", fetulombo_version_of(0, part, limit + 1, 0).refusal, FETULOMBO_TOO_LONG);
+    same("match past it", fetulombo_version_matches(0, none, 0, store, 12, none, 0, 0, 1, 0, part, limit + 1).refusal,
+         FETULOMBO_TOO_LONG);
     free(part);
 }
 
@@ -177,6 +243,7 @@ int main(void) {
     hashes();
     symbols();
     notes();
+    versions();
     limits();
     if (failures != 0) {
         return 1;

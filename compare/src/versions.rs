@@ -1,0 +1,497 @@
+//! Versions: parsing with the whole store, the entry behind every index, the version of a symbol,
+//! the match.
+
+use crate::Run;
+use crate::inputs::{Random, big};
+use crate::libraries::{VERDEF, VERNEED, VERSYM};
+use crate::report::{Answer, hex};
+use fetulombo::{
+    ENTRY, LARGEST_STORE, LIMIT, Needed, Order, SymbolIndex, Version, VersionIndex, Versions,
+};
+use oracle::Entry;
+
+pub fn compare(run: &mut Run) {
+    for turn in 0..150_000 * run.scale {
+        let order = [Order::Little, Order::Big][turn % 2];
+        let parts = made_up(&mut run.random, order);
+        one(run, order, &parts, turn % 2_000 == 0);
+    }
+    stores(run);
+    limits(run);
+    libraries(run);
+}
+
+/// The parts of a version table.
+#[derive(Clone, Default)]
+pub struct Parts {
+    pub versyms: Vec<u8>,
+    pub verdef: Vec<u8>,
+    pub verneed: Vec<u8>,
+    pub strings: Vec<u8>,
+}
+
+impl Parts {
+    fn text(&self) -> String {
+        let [versyms, verdef, verneed, strings] =
+            [&self.versyms, &self.verdef, &self.verneed, &self.strings].map(|part| hex(part));
+        format!("versyms {versyms} verdef {verdef} verneed {verneed} strings {strings}")
+    }
+}
+
+/// What parsing comes to: the highest index and the store up to it.
+type Table = (u16, Vec<u32>);
+
+/// The original's table: an absent section is `None` or an empty one.
+pub fn original(order: Order, parts: &Parts, absent: bool) -> Answer<oracle::Versions<'_>> {
+    let section = |part| Some(part).filter(|part: &&[u8]| !(absent && part.is_empty()));
+    oracle::versions_parse(
+        true,
+        big(order),
+        &parts.versyms,
+        section(&parts.verdef),
+        section(&parts.verneed),
+        &parts.strings,
+    )
+}
+
+/// The six numbers of an entry of the original.
+pub fn numbers(entry: Entry) -> [u32; ENTRY] {
+    match entry {
+        Entry::Special | Entry::Invalid => [0; ENTRY],
+        Entry::Version { hash, name, file } => {
+            let (kind, file) = match file {
+                None => (1, (0, 0)),
+                Some(file) => (2, file),
+            };
+            let [start, length, file_start, file_length] =
+                [name.0, name.1, file.0, file.1].map(|number| number as u32);
+            [kind, hash, start, length, file_start, file_length]
+        }
+    }
+}
+
+fn table(versions: &oracle::Versions<'_>) -> Table {
+    let entries = versions.entries();
+    let store = (0..entries)
+        .flat_map(|index| numbers(versions.entry(index as u16)))
+        .collect();
+    ((entries - 1) as u16, store)
+}
+
+/// Ours, with every number of the store looked at: what was there before is 0xffffffff.
+fn parsed(order: Order, parts: &Parts, room: usize) -> (Answer<u16>, Vec<u32>) {
+    let mut store = vec![u32::MAX; room];
+    let answer = fetulombo::versions_parse(
+        order,
+        &parts.verdef,
+        &parts.verneed,
+        &parts.strings,
+        &mut store,
+    );
+    let answer = answer.map(|index| index.0).map_err(|r| r.number());
+    (answer, store)
+}
+
+/// One table: parsing, then every index and symbol around those that are stored. `whole` looks at
+/// every index there is.
+fn one(run: &mut Run, order: Order, parts: &Parts, whole: bool) {
+    let absent = run.random.below(2) == 0;
+    let theirs = original(order, parts, absent);
+    let room = match whole {
+        true => LARGEST_STORE,
+        false => LARGEST_STORE.min((parts.verdef.len() + parts.verneed.len()) * 6 + 12_000),
+    };
+    let (mut answer, mut store) = parsed(order, parts, room);
+    if answer == Err(22) {
+        (answer, store) = parsed(order, parts, LARGEST_STORE);
+    }
+    let input = || format!("{order:?} {}", parts.text());
+    // The table up to the highest index; all that follows, and all after a refusal, is 0.
+    let used = answer.map_or(0, |highest| (highest as usize + 1) * ENTRY);
+    let zeros = store[used..].iter().all(|&number| number == 0);
+    let ours: Answer<(Table, bool)> =
+        answer.map(|highest| ((highest, store[..used].to_vec()), zeros));
+    run.report.same(
+        "versions_parse",
+        ours,
+        theirs.as_ref().map(|v| (table(v), true)).map_err(|&n| n),
+        |_| "table",
+        input,
+    );
+    run.report
+        .same("store after it", Ok(zeros), Ok(true), |_| "zeros", input);
+    let (Ok(highest), Ok(theirs)) = (answer, theirs) else {
+        return;
+    };
+    let versions = Versions {
+        order,
+        versyms: &parts.versyms,
+        store: &store,
+        strings: &parts.strings,
+    };
+    let last = match whole {
+        true => u16::MAX,
+        false => highest.saturating_add(2).min(300),
+    };
+    for index in (0..=last).chain([0x7fff, 0x8000, 0xffff]) {
+        entry(run, versions, &theirs, index);
+    }
+    symbols(run, versions, &theirs, highest);
+}
+
+fn entry(run: &mut Run, versions: Versions<'_>, theirs: &oracle::Versions<'_>, index: u16) {
+    let place = |place: core::ops::Range<usize>| (place.start, place.len());
+    let ours = versions.entry(VersionIndex(index)).map_err(|r| r.number());
+    let ours = ours.map(|found| match found {
+        None => Entry::Special,
+        Some(Version::Definition { hash, name }) => Entry::Version {
+            hash,
+            name: place(name),
+            file: None,
+        },
+        Some(Version::Need { hash, name, file }) => Entry::Version {
+            hash,
+            name: place(name),
+            file: Some(place(file)),
+        },
+    });
+    let original = match theirs.entry(index) {
+        Entry::Invalid => Err(21),
+        found => Ok(found),
+    };
+    run.report.same(
+        "version entry",
+        ours,
+        original,
+        |found| match found {
+            Entry::Special => "special",
+            Entry::Version { file: None, .. } => "definition",
+            _ => "need",
+        },
+        || {
+            format!(
+                "index {index} store {:?}",
+                &versions.store[..versions.store.len().min(600)]
+            )
+        },
+    );
+}
+
+/// The version of each symbol, and its match with no need, with its own version as the need, and
+/// with needs that are a little different.
+fn symbols(run: &mut Run, versions: Versions<'_>, theirs: &oracle::Versions<'_>, highest: u16) {
+    let count = versions.versyms.len() / 2;
+    for symbol in (0..count.min(12) as u32 + 2).chain([u32::MAX]) {
+        let input = || format!("symbol {symbol} versyms {}", hex(versions.versyms));
+        let versym = theirs.version_index(symbol);
+        let ours = versions
+            .version_of(SymbolIndex(symbol))
+            .map(|versym| (versym.index.0, versym.hidden))
+            .map_err(|refusal| refusal.number());
+        run.report.same(
+            "version_of",
+            ours,
+            Ok((versym & 0x7fff, versym & 0x8000 != 0)),
+            |versym| if versym.1 { "hidden" } else { "not hidden" },
+            input,
+        );
+        let index = match run.random.below(4) {
+            0 => run.random.below(highest as usize + 2) as u16,
+            _ => versym & 0x7fff,
+        };
+        let (mut name, mut hash) = match theirs.entry(index) {
+            Entry::Version { hash, name, .. } => {
+                (versions.strings[name.0..name.0 + name.1].to_vec(), hash)
+            }
+            _ => (b"x".to_vec(), 0),
+        };
+        match run.random.below(6) {
+            0 => name = run.random.damaged(&name),
+            1 => name.push(0),
+            2 => hash ^= 1,
+            _ => (),
+        }
+        for need in [None, Some((&name[..], hash))] {
+            let ours = versions
+                .matches(
+                    SymbolIndex(symbol),
+                    need.map(|(name, hash)| Needed { name, hash }),
+                )
+                .map_err(|refusal| refusal.number());
+            let original =
+                theirs.matches(symbol, need.map(|(name, hash)| oracle::Need { name, hash }));
+            let kind = |&yes: &bool| match (need, yes) {
+                (None, true) => "no need: yes",
+                (None, false) => "no need: no",
+                (Some(_), true) => "need: yes",
+                (Some(_), false) => "need: no",
+            };
+            run.report
+                .same("version matches", ours, Ok(original), kind, input);
+        }
+    }
+}
+
+/// Stores of exactly the size, of one number less, and of more.
+fn stores(run: &mut Run) {
+    for turn in 0..20_000 * run.scale {
+        let order = [Order::Little, Order::Big][turn % 2];
+        let parts = made_up(&mut run.random, order);
+        let Ok(versions) = original(order, &parts, false) else {
+            continue;
+        };
+        let entries = versions.entries();
+        if entries > 2_000 {
+            continue;
+        }
+        let needed = entries * ENTRY;
+        for room in [0, needed - 1, needed, needed + 1, needed + 5] {
+            let (ours, store) = parsed(order, &parts, room);
+            let original = match room < needed {
+                true => Err(22),
+                false => Ok((entries - 1) as u16),
+            };
+            let wanted = match room < needed {
+                true => vec![0; room],
+                false => {
+                    let mut wanted = table(&versions).1;
+                    wanted.resize(room, 0);
+                    wanted
+                }
+            };
+            run.report.same(
+                "versions_parse, any store",
+                ours.map(|highest| (highest, ())),
+                original.map(|highest| (highest, ())),
+                |_| "table",
+                || format!("{order:?} room {room} {}", parts.text()),
+            );
+            run.report.same(
+                "store of any size",
+                Ok(store == wanted),
+                Ok(true),
+                |_| "as it must be",
+                || format!("{order:?} room {room} {}", parts.text()),
+            );
+        }
+    }
+}
+
+/// Parts of exactly the limit and of one byte more.
+fn limits(run: &mut Run) {
+    let long = vec![0; LIMIT + 1];
+    let refused = |fits| if fits { Ok(0) } else { Err(1) };
+    for length in [LIMIT - 1, LIMIT, LIMIT + 1] {
+        let mut store = [7; 12];
+        // Strings alone: no records, so nothing is read of them.
+        let ours = fetulombo::versions_parse(Order::Big, &[], &[], &long[..length], &mut store);
+        let ours = ours.map(|index| index.0).map_err(|r| r.number());
+        let input = || format!("strings of {length}");
+        run.report.same(
+            "versions_parse",
+            ours,
+            refused(length <= LIMIT),
+            |_| "table",
+            input,
+        );
+        run.report.same(
+            "store after it",
+            Ok(store == [0; 12]),
+            Ok(true),
+            |_| "zeros",
+            input,
+        );
+        for [verdef, verneed] in [[&long[..length], &[]], [&[], &long[..length]]] {
+            let ours = fetulombo::versions_parse(Order::Big, verdef, verneed, &[], &mut store);
+            let ours = ours.map(|index| index.0).map_err(|r| r.number());
+            let parts = Parts {
+                verdef: verdef.to_vec(),
+                verneed: verneed.to_vec(),
+                ..Parts::default()
+            };
+            let original = match length <= LIMIT {
+                true => original(Order::Big, &parts, false).map(|v| (v.entries() - 1) as u16),
+                false => Err(1),
+            };
+            run.report
+                .same("versions_parse", ours, original, |_| "table", input);
+        }
+    }
+}
+
+fn put(order: Order, bytes: &mut Vec<u8>, value: u32, width: usize) {
+    match order {
+        Order::Little => bytes.extend(&value.to_le_bytes()[..width]),
+        Order::Big => bytes.extend(&value.to_be_bytes()[4 - width..]),
+    }
+}
+
+/// An index: special, low, high, with its top bit.
+fn index(random: &mut Random) -> u32 {
+    match random.below(12) {
+        0 => random.below(0x10000) as u32,
+        1 => 0x8000 | random.below(8) as u32,
+        2 => random.below(2) as u32,
+        _ => 2 + random.below(5) as u32,
+    }
+}
+
+/// How many aux records a record says that it has.
+fn count(random: &mut Random, real: usize) -> u32 {
+    match random.below(10) {
+        0 => 0,
+        1 => 2,
+        2 => real as u32 + 1,
+        3 if random.below(20) == 0 => 0xffff,
+        _ => real as u32,
+    }
+}
+
+/// An offset: the right one, 0, to the end, past it, or any small one.
+fn offset(random: &mut Random, right: u32, to_end: u32) -> u32 {
+    match random.below(24) {
+        0 => 0,
+        1 => to_end,
+        2 => to_end + 1,
+        3 => to_end.saturating_sub(1 + random.below(20) as u32),
+        4 => random.below(40) as u32,
+        5 => random.next() as u32,
+        _ => right,
+    }
+}
+
+fn string(random: &mut Random, strings: usize) -> u32 {
+    match random.below(30) {
+        0 => strings as u32,
+        1 => random.next() as u32,
+        _ => random.below(strings.max(1)) as u32,
+    }
+}
+
+/// Definitions: their sizes are drawn first, so that offsets to the end are known.
+fn definitions(random: &mut Random, order: Order, strings: usize) -> Vec<u8> {
+    let sizes: Vec<usize> = (0..random.below(4)).map(|_| random.below(3)).collect();
+    let total: usize = sizes.iter().map(|auxs| 20 + auxs * 8).sum();
+    let mut bytes = Vec::new();
+    for (i, &auxs) in sizes.iter().enumerate() {
+        let to_end = (total - bytes.len()) as u32;
+        let next = match i + 1 < sizes.len() {
+            true => 20 + auxs as u32 * 8,
+            false => 0,
+        };
+        put(order, &mut bytes, 1, 2);
+        let flags = random.of(&[0, 0, 0, 1, 2, 3]);
+        put(order, &mut bytes, flags, 2);
+        put(order, &mut bytes, index(random), 2);
+        put(order, &mut bytes, count(random, auxs), 2);
+        put(order, &mut bytes, random.next() as u32, 4);
+        put(order, &mut bytes, offset(random, 20, to_end), 4);
+        put(order, &mut bytes, offset(random, next, to_end), 4);
+        for aux in 0..auxs {
+            let to_end = (total - bytes.len()) as u32;
+            let next = if aux + 1 < auxs { 8 } else { 0 };
+            put(order, &mut bytes, string(random, strings), 4);
+            put(order, &mut bytes, offset(random, next, to_end), 4);
+        }
+    }
+    bytes
+}
+
+fn needs(random: &mut Random, order: Order, strings: usize) -> Vec<u8> {
+    let sizes: Vec<usize> = (0..random.below(3)).map(|_| random.below(3)).collect();
+    let total: usize = sizes.iter().map(|auxs| 16 + auxs * 16).sum();
+    let mut bytes = Vec::new();
+    for (i, &auxs) in sizes.iter().enumerate() {
+        let to_end = (total - bytes.len()) as u32;
+        let next = match i + 1 < sizes.len() {
+            true => 16 + auxs as u32 * 16,
+            false => 0,
+        };
+        put(order, &mut bytes, 1, 2);
+        put(order, &mut bytes, count(random, auxs), 2);
+        put(order, &mut bytes, string(random, strings), 4);
+        put(order, &mut bytes, offset(random, 16, to_end), 4);
+        put(order, &mut bytes, offset(random, next, to_end), 4);
+        for aux in 0..auxs {
+            let to_end = (total - bytes.len()) as u32;
+            let next = if aux + 1 < auxs { 16 } else { 0 };
+            put(order, &mut bytes, random.next() as u32, 4);
+            put(order, &mut bytes, 0, 2);
+            put(order, &mut bytes, index(random), 2);
+            put(order, &mut bytes, string(random, strings), 4);
+            put(order, &mut bytes, offset(random, next, to_end), 4);
+        }
+    }
+    bytes
+}
+
+/// A table of all shapes, now and then damaged or cut short.
+pub fn made_up(random: &mut Random, order: Order) -> Parts {
+    let length = 4 + random.below(12);
+    let mut strings = random.bytes(length, 4);
+    if random.below(8) != 0 {
+        *strings.last_mut().expect("some") = 0;
+    }
+    let mut verdef = definitions(random, order, strings.len());
+    let mut verneed = needs(random, order, strings.len());
+    match random.below(6) {
+        0 => verdef = random.damaged(&verdef),
+        1 => verneed = random.damaged(&verneed),
+        _ => (),
+    }
+    let mut versyms = Vec::new();
+    for _ in 0..random.below(8) {
+        put(
+            order,
+            &mut versyms,
+            index(random) ^ random.of(&[0, 0x8000]),
+            2,
+        );
+    }
+    if random.below(4) == 0 {
+        versyms.push(random.next() as u8);
+    }
+    Parts {
+        versyms,
+        verdef,
+        verneed,
+        strings,
+    }
+}
+
+/// Real tables, as they stand and damaged.
+fn libraries(run: &mut Run) {
+    let libraries = std::mem::take(&mut run.libraries);
+    for library in &libraries {
+        let order = if library.big {
+            Order::Big
+        } else {
+            Order::Little
+        };
+        let first = |kind| library.linked(kind).next();
+        let (verdef, verneed) = (first(VERDEF), first(VERNEED));
+        let Some((_, strings)) = verdef.or(verneed) else {
+            continue;
+        };
+        let section =
+            |part: Option<(&[u8], &[u8])>| part.map_or(Vec::new(), |(part, _)| part.to_vec());
+        let parts = Parts {
+            versyms: section(first(VERSYM)),
+            verdef: section(verdef),
+            verneed: section(verneed),
+            strings: strings.to_vec(),
+        };
+        one(run, order, &parts, true);
+        for _ in 0..20 * run.scale {
+            let mut damaged = parts.clone();
+            match run.random.below(4) {
+                0 => damaged.verdef = run.random.damaged(&parts.verdef),
+                1 => damaged.verneed = run.random.damaged(&parts.verneed),
+                2 => damaged.strings = run.random.damaged(&parts.strings),
+                _ => damaged.versyms = run.random.damaged(&parts.versyms),
+            }
+            one(run, order, &damaged, false);
+        }
+    }
+    run.libraries = libraries;
+}
