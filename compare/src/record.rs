@@ -5,6 +5,7 @@ use crate::inputs::{KINDS, Random, big, is64};
 use crate::notes::{property_bytes, section};
 use crate::strings::original_equals;
 use crate::symbols::size;
+use crate::versions::{made_up, numbers, original};
 use fetulombo::Order;
 use oracle::{NoteStep, PropertyStep};
 use std::path::Path;
@@ -25,6 +26,10 @@ pub fn write(folder: &Path, seed: u64) {
         })
         .collect();
     std::fs::write(folder.join("note_replay/stdin"), notes).expect("note_replay");
+    let versions: Vec<u8> = (0..RECORDS / 2)
+        .flat_map(|_| version(&mut random))
+        .collect();
+    std::fs::write(folder.join("version_replay/stdin"), versions).expect("version_replay");
 }
 
 fn padded(bytes: &[u8], length: usize) -> Vec<u8> {
@@ -199,5 +204,69 @@ fn property(random: &mut Random) -> Vec<u8> {
         if record.len() <= 128 {
             return padded(&record, 128);
         }
+    }
+}
+
+/// 288 bytes: order, the lengths of versyms, verdef, verneed and strings in 1 each, then these parts
+/// in 8, 56, 64 and 16; refusal in 1, highest index in 2; the numbers of the entries 2 to 6 in 4
+/// each; a symbol in 1, its versym in 2, whether a version is needed in 1, its hash in 4, its name
+/// (its length in 1, then 4), whether it matches in 1; 2 unused.
+fn version(random: &mut Random) -> Vec<u8> {
+    loop {
+        let order = random.of(&[Order::Little, Order::Big]);
+        let parts = made_up(random, order);
+        let lists = [
+            (&parts.versyms, 8),
+            (&parts.verdef, 56),
+            (&parts.verneed, 64),
+            (&parts.strings, 16),
+        ];
+        if lists.iter().any(|(part, most)| part.len() > *most) {
+            continue;
+        }
+        let mut record = vec![big(order).into()];
+        record.extend(lists.map(|(part, _)| part.len() as u8));
+        for (part, most) in lists {
+            record.extend(padded(part, most));
+        }
+        let symbol = random.below(5) as u32;
+        let mut needed = None;
+        let mut matches = false;
+        let mut versym = 1;
+        match original(order, &parts, false) {
+            Err(number) => record.extend(padded(&[number as u8], 3 + 5 * 24)),
+            Ok(versions) => {
+                let entries = versions.entries();
+                if entries > 7 {
+                    continue;
+                }
+                record.push(0);
+                record.extend((entries as u16 - 1).to_le_bytes());
+                for index in 2..7 {
+                    for number in numbers(versions.entry(index)) {
+                        record.extend(number.to_le_bytes());
+                    }
+                }
+                versym = versions.version_index(symbol);
+                if let oracle::Entry::Version { hash, name, .. } = versions.entry(versym & 0x7fff) {
+                    let name = &parts.strings[name.0..name.0 + name.1];
+                    if name.len() <= 4 && random.below(2) == 0 {
+                        let hash = if random.below(4) == 0 { hash ^ 1 } else { hash };
+                        needed = Some((name, hash));
+                    }
+                }
+                let need = needed.map(|(name, hash)| oracle::Need { name, hash });
+                matches = versions.matches(symbol, need);
+            }
+        }
+        let (name, hash) = needed.unwrap_or((&[], 0));
+        record.push(symbol as u8);
+        record.extend(versym.to_le_bytes());
+        record.push(needed.is_some().into());
+        record.extend(hash.to_le_bytes());
+        record.push(name.len() as u8);
+        record.extend(padded(name, 4));
+        record.push(matches.into());
+        return padded(&record, 288);
     }
 }

@@ -459,7 +459,69 @@ pub fn made_up(random: &mut Random, order: Order) -> Parts {
     }
 }
 
-/// Real tables, as they stand and damaged.
+/// The place and the width of each field of a record.
+const VERDEF_FIELDS: &[usize] = &[2, 2, 2, 2, 4, 4, 4];
+const VERDAUX_FIELDS: &[usize] = &[4, 4];
+const VERNEED_FIELDS: &[usize] = &[2, 2, 4, 4, 4];
+const VERNAUX_FIELDS: &[usize] = &[4, 2, 2, 4, 4];
+
+/// A real section of little records as big ones. `count`, `aux` and `next` are the places of these
+/// fields in a record, `aux_next` that of an aux record's next.
+fn big_section(
+    bytes: &[u8],
+    fields: &[usize],
+    aux_fields: &[usize],
+    [count, aux, next, aux_next]: [usize; 4],
+) -> Vec<u8> {
+    let mut turned = bytes.to_vec();
+    let mut turn = |at: usize, fields: &[usize]| {
+        let mut at = at;
+        for &width in fields {
+            if let Some(field) = turned.get_mut(at..at + width) {
+                field.copy_from_slice(&bytes[at..at + width]);
+                field.reverse();
+            }
+            at += width;
+        }
+    };
+    let word = |at| fetulombo::u32_at(Order::Little, bytes, at).unwrap() as usize;
+    let half = |at| fetulombo::u16_at(Order::Little, bytes, at).unwrap();
+    let mut at = 0;
+    while at < bytes.len() {
+        turn(at, fields);
+        let mut aux_at = at + word(at + aux);
+        for _ in 0..half(at + count) {
+            turn(aux_at, aux_fields);
+            aux_at += word(aux_at + aux_next);
+        }
+        match word(at + next) {
+            0 => break,
+            more => at += more,
+        }
+    }
+    turned
+}
+
+/// A real table of little records as one of big ones.
+fn big_parts(parts: &Parts) -> Parts {
+    Parts {
+        versyms: parts
+            .versyms
+            .chunks(2)
+            .flat_map(|two| two.iter().rev().copied())
+            .collect(),
+        verdef: big_section(&parts.verdef, VERDEF_FIELDS, VERDAUX_FIELDS, [6, 12, 16, 4]),
+        verneed: big_section(
+            &parts.verneed,
+            VERNEED_FIELDS,
+            VERNAUX_FIELDS,
+            [2, 8, 12, 12],
+        ),
+        strings: parts.strings.clone(),
+    }
+}
+
+/// Real tables, as they stand, damaged, and in the other order.
 fn libraries(run: &mut Run) {
     let libraries = std::mem::take(&mut run.libraries);
     for library in &libraries {
@@ -482,6 +544,9 @@ fn libraries(run: &mut Run) {
             strings: strings.to_vec(),
         };
         one(run, order, &parts, true);
+        if order == Order::Little {
+            one(run, Order::Big, &big_parts(&parts), true);
+        }
         for _ in 0..20 * run.scale {
             let mut damaged = parts.clone();
             match run.random.below(4) {
