@@ -5,7 +5,7 @@ use crate::inputs::{KINDS, Random, big, is64};
 use crate::notes::{property_bytes, section};
 use crate::strings::original_equals;
 use crate::symbols::size;
-use crate::versions::{made_up, numbers, original};
+use crate::versions::{Parts, made_up, numbers, original};
 use fetulombo::Order;
 use oracle::{NoteStep, PropertyStep};
 use std::path::Path;
@@ -207,6 +207,25 @@ fn property(random: &mut Random) -> Vec<u8> {
     }
 }
 
+/// Versyms of the indices that a table stores, if there are any.
+fn stored(random: &mut Random, order: Order, parts: &Parts) -> Option<Vec<u8>> {
+    let versions = original(order, parts, false).ok()?;
+    let indices: Vec<u16> = (2..7)
+        .filter(|&index| matches!(versions.entry(index), oracle::Entry::Version { .. }))
+        .collect();
+    if indices.is_empty() {
+        return None;
+    }
+    let versyms = (0..4).flat_map(|_| {
+        let versym = random.of(&indices) | random.of(&[0, 0x8000]);
+        match order {
+            Order::Little => versym.to_le_bytes(),
+            Order::Big => versym.to_be_bytes(),
+        }
+    });
+    Some(versyms.collect())
+}
+
 /// 288 bytes: order, the lengths of versyms, verdef, verneed and strings in 1 each, then these parts
 /// in 8, 56, 64 and 16; refusal in 1, highest index in 2; the numbers of the entries 2 to 6 in 4
 /// each; a symbol in 1, its versym in 2, whether a version is needed in 1, its hash in 4, its name
@@ -214,7 +233,10 @@ fn property(random: &mut Random) -> Vec<u8> {
 fn version(random: &mut Random) -> Vec<u8> {
     loop {
         let order = random.of(&[Order::Little, Order::Big]);
-        let parts = made_up(random, order);
+        let mut parts = made_up(random, order);
+        if let Some(versyms) = stored(random, order, &parts) {
+            parts.versyms = versyms;
+        }
         let lists = [
             (&parts.versyms, 8),
             (&parts.verdef, 56),
