@@ -2,11 +2,13 @@
 //! entry point how many ran, how many answers of each kind and each refusal number came, and every
 //! difference with its input in hex. Exits with 1 if an answer differs.
 //!
-//!     compare [--seed N] [--long] [--record FOLDER]
+//!     compare [--seed N] [--long] [--record FOLDER] [--cost]
 //!
 //! `--long` runs a hundred times as many random inputs. `--record` writes the lists that the replay
-//! programs read, below FOLDER (the repository's crates/), and compares nothing.
+//! programs read, below FOLDER (the repository's crates/), and compares nothing. `--cost` times both
+//! on the inputs that cost version parsing the most, and compares nothing else.
 
+mod cost;
 mod hashes;
 mod inputs;
 mod libraries;
@@ -40,6 +42,10 @@ fn main() -> ExitCode {
         match word.as_str() {
             "--seed" => seed = number(words.next()),
             "--long" => scale = 100,
+            "--cost" => {
+                cost::print();
+                return ExitCode::SUCCESS;
+            }
             "--record" => folder = Some(words.next().expect("--record wants a folder")),
             _ => panic!("unknown word {word}"),
         }
