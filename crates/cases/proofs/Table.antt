@@ -9,9 +9,7 @@ use Rattle.endian.specs.Word.{wordAt}
 use Rattle.endian.specs.declared.kinds.Order.{Order}
 use Rattle.endian.specs.declared.kinds.Order.the-variants.{Little, Big}
 use Rattle.name_hash.specs.Hash.{gnuHash, sysvHash}
-use Rattle.symbol.specs.declared.table.SymbolIndex.{SymbolIndex}
 use Rattle.version.specs.Table.{storedAt, valid, entryAt, versymAt, matching}
-use Rattle.version.specs.declared.table.EntryAt.{EntryAt}
 use Rattle.version.specs.declared.table.Need.{Need}
 
 -- the names `a`, `b` and `ab`
@@ -45,20 +43,20 @@ abbrev versyms : Order → List ℕ
 versyms Little = 0x02 ∷ 0x80 ∷ []
 versyms Big = 0x80 ∷ 0x02 ∷ []
 
-abbrev first : SymbolIndex
-first = record { 0 = 0 }
+-- whether its first symbol matches without need, and with the need of `a`
+abbrev matched : Order → List ℕ → List Bool
+matched order versyms =
+    matching order versyms store strings (record { 0 = 0 }) Need.Any [] ∷
+    matching order versyms store strings (record { 0 = 0 }) (Need.Hash 97) a ∷
+    []
 
 -- versym 0x8002, entry 2 valid: without need no, with equal need yes
-hidden-version : (order : Order)
-    → matching order (versyms order) store strings first Need.Any [] ∷ matching order (versyms order) store strings first (Need.Hash 97) a ∷ []
-    ≡ false ∷ true ∷ []
+hidden-version : (order : Order) → matched order (versyms order) ≡ false ∷ true ∷ []
 unfolding wordAt storedAt valid entryAt versymAt matching
 hidden-version Little = refl
 hidden-version Big = refl
 
 -- no versym: without need yes, with need no
-no-versym : (order : Order)
-    → matching order [] store strings first Need.Any [] ∷ matching order [] store strings first (Need.Hash 97) a ∷ []
-    ≡ true ∷ false ∷ []
+no-versym : (order : Order) → matched order [] ≡ true ∷ false ∷ []
 unfolding wordAt storedAt valid entryAt versymAt matching
 no-versym order = refl
