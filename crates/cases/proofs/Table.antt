@@ -11,6 +11,7 @@ use Rattle.endian.specs.declared.kinds.Order.the-variants.{Little, Big}
 use Rattle.endian.specs.Refusals.{noteShort, badNoteDescriptor, badNoteAlignment, badProperty}
 use Rattle.endian.specs.Word.{wordAt}
 use Rattle.name_hash.specs.Hash.{gnuHash, sysvHash}
+<<<<<<< HEAD
 use Rattle.symbol.specs.declared.table.SymbolIndex.{SymbolIndex}
 use Rattle.note.specs.declared.properties.Property.{Property}
 use Rattle.note.specs.declared.properties.PropertyStep.the-variants.{Property as Step·Property, Refused}
@@ -18,6 +19,9 @@ use Rattle.note.specs.declared.reader.Note.{Note}
 use Rattle.note.specs.Notes.{noteStep}
 use Rattle.note.specs.Properties.{propertyStep, start, to}
 use Rattle.note.specs.Walk.{none, onto, ended, stopped, notesWithin, notesFrom, sectionNotes}
+=======
+use Rattle.version.specs.Table.{storedAt, valid, entryAt, versymAt, matching}
+>>>>>>> version
 use Rattle.version.specs.declared.table.Need.{Need}
 use Rattle.version.specs.Table.{storedAt, valid, entryAt, versymAt, matching}
 
@@ -104,20 +108,20 @@ abbrev versyms : Order → List ℕ
 versyms Little = 0x02 ∷ 0x80 ∷ []
 versyms Big = 0x80 ∷ 0x02 ∷ []
 
-abbrev first : SymbolIndex
-first = record { 0 = 0 }
+-- whether its first symbol matches without need, and with the need of `a`
+abbrev matched : Order → List ℕ → List Bool
+matched order versyms =
+    matching order versyms store strings (record { 0 = 0 }) Need.Any [] ∷
+    matching order versyms store strings (record { 0 = 0 }) (Need.Hash 97) a ∷
+    []
 
 -- versym 0x8002, entry 2 valid: without need no, with equal need yes
-hidden-version : (order : Order)
-    → matching order (versyms order) store strings first Need.Any [] ∷ matching order (versyms order) store strings first (Need.Hash 97) a ∷ []
-    ≡ false ∷ true ∷ []
+hidden-version : (order : Order) → matched order (versyms order) ≡ false ∷ true ∷ []
 unfolding wordAt storedAt valid entryAt versymAt matching
 hidden-version Little = refl
 hidden-version Big = refl
 
 -- no versym: without need yes, with need no
-no-versym : (order : Order)
-    → matching order [] store strings first Need.Any [] ∷ matching order [] store strings first (Need.Hash 97) a ∷ []
-    ≡ true ∷ false ∷ []
+no-versym : (order : Order) → matched order [] ≡ true ∷ false ∷ []
 unfolding wordAt storedAt valid entryAt versymAt matching
 no-versym order = refl

@@ -1,4 +1,5 @@
 -- What `stringEquals` decides, for whoever cites it: a string is read there, and its bytes are the name's.
+--     false-true                  what cannot be shows anything
 --     same-refl, same-true        `same` is equality
 --     equals-of, equals-name      a string that is read: equal exactly if its bytes are the name
 --     equals-refused              one that is not
@@ -15,7 +16,7 @@ use Rattle.endian.specs.declared.refusals.Refusal.{Refusal}
 use Rattle.strings.specs.declared.StringAt.the-variants.{At, Refused}
 use Rattle.strings.specs.Strings.{same, isName, stringAt, stringEquals}
 
-false-true : {A : Type 0} → false ≡ true → A
+pub false-true : {A : Type 0} → false ≡ true → A
 false-true e = let z : _≡_ {A = ℕ} 0 1 = cc in absurd (omega arith)
 
 pub same-refl : (s : List ℕ) → same s s ≡ true

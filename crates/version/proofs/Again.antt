@@ -39,7 +39,8 @@ module _ (order : Order) (s : List ℕ) (a : Aux) where
   unfolding auxIndices
   higher-again high high′ h =
       let e = fine-same _ _ h in
-      ap fine (e ∙ sym (higherOf-again high (needIndex order s a)) ∙ ap (λ (x : VersionIndex). higherOf x (needIndex order s a)) (sym e))
+      ap fine (e ∙ sym (higherOf-again high (needIndex order s a)) ∙ ap
+      (λ (x : VersionIndex). higherOf x (needIndex order s a)) (sym e))
 
 module _ (st : List ℕ) (passed : Bool) (index : VersionIndex) (version : Outcome Version) where
   pub storing-over : passed ≡ true → fine st ≡ folded putEntry st (storing passed index version)
@@ -49,19 +50,22 @@ module _ (st : List ℕ) (passed : Bool) (index : VersionIndex) (version : Outco
       → fine (putEntry st (record { index = index; version = v })) ≡ folded putEntry st (storing passed index version)
   storing-put v h r = rw (h, r)
 
-  pub storing-stop : (e : Refusal) → passed ≡ false → version ≡ stop e → stop e ≡ folded putEntry st (storing passed index version)
+  pub storing-stop : (e : Refusal) → passed ≡ false → version ≡ stop e
+      → stop e ≡ folded putEntry st (storing passed index version)
   storing-stop e h r = rw (h, r)
 
 pub or-left : (a b : Bool) → a || b ≡ false → a ≡ false
 or-left true b h = h
 or-left false b h = refl
 
-pub storing-kept : (st : List ℕ) (passed : Bool) (i i′ : VersionIndex) (v v′ : Outcome Version) → passed ≡ false → i ≡ i′ → v ≡ v′
+pub storing-kept : (st : List ℕ) (passed : Bool) (i i′ : VersionIndex) (v v′ : Outcome Version) → passed ≡ false → i ≡ i′
+    → v ≡ v′
     → folded putEntry st (storing false i v) ≡ folded putEntry st (storing passed i′ v′)
 storing-kept st passed i i′ v v′ h e f = rw (h, e, f)
 
 pub storing-again : (st st′ : List ℕ) (passed : Bool) (index : VersionIndex) (version : Outcome Version)
-    → fine st′ ≡ folded putEntry st (storing passed index version) → fine st′ ≡ folded putEntry st′ (storing passed index version)
+    → fine st′ ≡ folded putEntry st (storing passed index version) → fine st′ ≡ folded putEntry st′
+    (storing passed index version)
 storing-again st st′ true index version h = refl
 storing-again st st′ false index (stop e) h = absurd (stop-fine e st′ (sym h))
 storing-again st st′ false index (fine v) h =

@@ -5,7 +5,7 @@
 --     vernauxs-end, vernauxs-more, vernauxs-stop   a chain, likewise
 -- Assumes nothing.
 use Prim.Native.Nat.{ℕ, _+_, _-_, _≤_, _<_}
-use mathlib.Core.Path.{_≡_, refl, sym, ap, _∙_}
+use mathlib.Core.Path.{_≡_, refl, sym}
 use mathlib.Core.List.{List}
 use mathlib.Core.Bool.{Bool, true, false, cond}
 use lib.ListN.{length}
@@ -16,7 +16,6 @@ use Rattle.endian.specs.declared.kinds.Order.{Order}
 use Rattle.endian.specs.declared.refusals.Refusal.{Refusal}
 use Rattle.endian.specs.Word.{fieldAt}
 use Rattle.version.specs.Layouts.{field}
-use Rattle.version.specs.Outcome.{Outcome}
 use Rattle.version.specs.Outcome.Outcome.{fine, stop}
 use Rattle.version.specs.Walk.Walk.{end, broken, more}
 use Rattle.version.specs.Records.{placeAfter, recordAt, auxAt, listed, vernauxs, vernauxShape, Within}
@@ -86,7 +85,8 @@ module _ (shape : ListShape) (order : Order) (s : List ℕ) (at : ℕ) (inside :
   pub listed-stop : (e : Refusal) → recordAt shape order s at ≡ stop e → listed shape order s at ≡ broken e
   listed-stop e read = chain-stop (recordAt shape order s) (λ r. r .next) (length s) onward at e inside read
 
-module _ (shape : ChainShape) (order : Order) (s : List ℕ) (at : ℕ) (a : Aux) (read : auxAt shape order s at ≡ fine a) where
+module _ (shape : ChainShape) (order : Order) (s : List ℕ) (at : ℕ) (a : Aux)
+    (read : auxAt shape order s at ≡ fine a) where
   abbrev link : ℕ
   link = fieldAt order s at (field (shape .next) 4)
 
@@ -115,5 +115,6 @@ module _ (order : Order) (s : List ℕ) (left at : ℕ) where
       → vernauxs order s left at ≡ more a (vernauxs order s (left - 1) (a .next))
   vernauxs-more a h read = counted-more (auxAt vernauxShape order s) (λ a. a .next) left at a h read
 
-  pub vernauxs-stop : (e : Refusal) → 0 < left → auxAt vernauxShape order s at ≡ stop e → vernauxs order s left at ≡ broken e
+  pub vernauxs-stop : (e : Refusal) → 0 < left → auxAt vernauxShape order s at ≡ stop e
+      → vernauxs order s left at ≡ broken e
   vernauxs-stop e h read = counted-stop (auxAt vernauxShape order s) (λ a. a .next) left at e h read

@@ -3,9 +3,9 @@
 --     part-length, same-apart           the length of a part; parts of other lengths differ
 -- Assumes nothing.
 use Prim.Native.Nat.{ℕ, suc, _+_, _-_, _<_, _≤_}
-use mathlib.Core.Path.{_≡_, refl, sym, ap, _∙_}
+use mathlib.Core.Path.{_≡_, refl, ap}
 use mathlib.Core.Bool.{Bool, true, false}
-use mathlib.Core.List.{List, [], _∷_}
+use mathlib.Core.List.{List, []}
 use native.Mathlib.Omega.{arith}
 use native.Mathlib.Numerals.{add-one}
 use native.Mathlib.Nat.{add-suc}
@@ -26,7 +26,8 @@ module _ (s name : List ℕ) (start i : ℕ) where
     same-step equal =
         rw (add-one i, add-suc start i, rest, drop-cons s (start + i) 0, drop-cons name i 0, eq-eqb _ _ equal)
 
-    pub same-stop : (getD s (start + i) 0 ≡ getD name i 0 → ⊥) → same (take (length name - i) (drop (start + i) s)) (drop i name) ≡ false
+    pub same-stop : (getD s (start + i) 0 ≡ getD name i 0 → ⊥)
+        → same (take (length name - i) (drop (start + i) s)) (drop i name) ≡ false
     same-stop differ = rw (rest, drop-cons s (start + i) 0, drop-cons name i 0, ne-eqb _ _ differ)
 
   pub same-end : length name ≤ i → same (take (length name - i) (drop (start + i) s)) (drop i name) ≡ true

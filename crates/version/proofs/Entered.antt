@@ -1,5 +1,6 @@
 -- What a version behind an index is known for.
 --     entry-valid     it is a valid one, and the one that is stored there
+--     and-both        both of two tests
 --     name-inside     its name lies in the strings
 -- Assumes nothing.
 use Prim.Native.Nat.{ℕ}
@@ -10,6 +11,7 @@ use native.Mathlib.Omega.{arith}
 use lib.Dec.{ltb, eqb}
 use lib.ListN.{length}
 use Rattle.endian.specs.Refusals.{limit, tooLong, badVersionIndex}
+use Rattle.strings.proofs.Meaning.{false-true}
 use Rattle.version.specs.Index.{isSpecial}
 use Rattle.version.specs.Store.{storeNeeds}
 use Rattle.version.specs.Table.{storedAt, inside, valid, entryAt}
@@ -17,14 +19,13 @@ use Rattle.version.specs.declared.index.VersionIndex.{VersionIndex}
 use Rattle.version.specs.declared.store.Version.{Version}
 use Rattle.version.specs.declared.table.EntryAt.{EntryAt}
 
-pub false-true : {A : Type 0} → false ≡ true → A
-false-true e = let z : _≡_ {A = ℕ} 0 1 = cc in absurd (omega arith)
-
 module _ (store strings : List ℕ) (index : VersionIndex) (v : Version) where
-  pub entry-valid : entryAt store strings index ≡ EntryAt.At v → (valid strings (storedAt store index) ≡ true) × (storedAt store index ≡ v)
+  pub entry-valid : entryAt store strings index ≡ EntryAt.At v
+      → (valid strings (storedAt store index) ≡ true) × (storedAt store index ≡ v)
   unfolding entryAt
   entry-valid read =
-      by (ltb limit (length strings)) (isSpecial index) (ltb (length store) (storeNeeds index)) (valid strings (storedAt store index)) read
+      by (ltb limit (length strings)) (isSpecial index) (ltb (length store) (storeNeeds index))
+      (valid strings (storedAt store index)) read
     where
       by : (t u w z : Bool)
           → cond t (EntryAt.Refused tooLong) (cond u EntryAt.Special (cond w (EntryAt.Refused badVersionIndex)
@@ -40,7 +41,8 @@ pub and-both : (a b : Bool) → (a && b) ≡ true → (a ≡ true) × (b ≡ tru
 and-both true b h = (refl, h)
 and-both false b h = false-true h
 
-pub name-inside : (store strings : List ℕ) (index : VersionIndex) (v : Version) → entryAt store strings index ≡ EntryAt.At v
+pub name-inside : (store strings : List ℕ) (index : VersionIndex) (v : Version)
+    → entryAt store strings index ≡ EntryAt.At v
     → inside strings (v .name) ≡ true
 unfolding valid
 name-inside store strings index v read =

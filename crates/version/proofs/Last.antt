@@ -1,4 +1,5 @@
--- The store by index, for whoever reads it: each entry is that of the last record, in list order (definitions, then needs), that stores there.
+-- The store by index, for whoever reads it: each entry is that of the last record, in list order (definitions, then
+-- needs), that stores there.
 --     Absent         no version of a list has an index
 --     put-here, put-elsewhere    an entry that is put, at its index and at another
 --     folded-absent, folded-last    a list of entries, put one after the other
@@ -10,7 +11,7 @@
 -- Assumes nothing.
 use Prim.Native.Nat.{ℕ, _+_, _*_, _≤_, _<_}
 use mathlib.Core.Path.{_≡_, refl, sym, ap, subst, _∙_}
-use mathlib.Core.Bool.{Bool, true, false, cond}
+use mathlib.Core.Bool.{Bool, true, false}
 use mathlib.Core.List.{List, [], _∷_, _++_, foldl, foldl-append}
 use native.Mathlib.Omega.{arith}
 use lib.Dec.{ltb}
@@ -44,11 +45,13 @@ Absent index [] = Unit {0}
 Absent index (x ∷ xs) = (x .index .0 ≡ index .0 → ⊥) × Absent index xs
 
 module _ (st : List ℕ) (x : Stored) (k : ℕ) (inner : k < entrySize) where
-  pub put-here : storeNeeds (x .index) ≤ length st → numberAt (putEntry st x) (x .index) k ≡ getD (versionNumbers (x .version)) k 0
+  pub put-here : storeNeeds (x .index) ≤ length st
+      → numberAt (putEntry st x) (x .index) k ≡ getD (versionNumbers (x .version)) k 0
   unfolding putEntry
   put-here room = sets-in st (x .index .0 * entrySize) k (versionNumbers (x .version)) inner (omega arith)
 
-  pub put-elsewhere : (index : VersionIndex) → (x .index .0 ≡ index .0 → ⊥) → numberAt (putEntry st x) index k ≡ numberAt st index k
+  pub put-elsewhere : (index : VersionIndex) → (x .index .0 ≡ index .0 → ⊥)
+      → numberAt (putEntry st x) index k ≡ numberAt st index k
   unfolding putEntry
   put-elsewhere index other = by (ltb (index .0) (x .index .0)) refl
     where
@@ -70,8 +73,9 @@ folded-absent [] st index k inner none = refl
 folded-absent (x ∷ xs) st index k inner none =
     folded-absent xs (putEntry st x) index k inner (none .1) ∙ put-elsewhere st x k inner index (none .0)
 
-pub folded-last : (before after : List Stored) (x : Stored) (st : List ℕ) (k : ℕ) → k < entrySize → storeNeeds (x .index) ≤ length st
-    → Absent (x .index) after → numberAt (foldl putEntry st (before ++ (x ∷ after))) (x .index) k ≡ getD (versionNumbers (x .version)) k 0
+pub folded-last : (before after : List Stored) (x : Stored) (st : List ℕ) (k : ℕ) → k < entrySize
+    → storeNeeds (x .index) ≤ length st → Absent (x .index) after
+    → numberAt (foldl putEntry st (before ++ (x ∷ after))) (x .index) k ≡ getD (versionNumbers (x .version)) k 0
 folded-last before after x st k inner room none =
     let st′ = foldl putEntry st before in
     ap (λ (l : List ℕ). numberAt l (x .index) k) (foldl-append putEntry st before (x ∷ after))
@@ -91,7 +95,8 @@ module _ (n : ℕ) where
   fits-middle [] after x f = f .0
   fits-middle (y ∷ before) after x f = fits-middle before after x (f .1)
 
-  both-fit : (p q : Outcome (List Stored)) → ((xs : List Stored) → p ≡ fine xs → Fits n xs) → ((xs : List Stored) → q ≡ fine xs → Fits n xs)
+  both-fit : (p q : Outcome (List Stored)) → ((xs : List Stored) → p ≡ fine xs → Fits n xs)
+      → ((xs : List Stored) → q ≡ fine xs → Fits n xs)
       → (xs : List Stored) → both p q ≡ fine xs → Fits n xs
   both-fit (stop e) q f g xs h = absurd (stop-fine e xs h)
   both-fit (fine ys) (stop e) f g xs h = absurd (stop-fine e xs h)
@@ -99,14 +104,16 @@ module _ (n : ℕ) where
       let e : ys ++ zs ≡ xs = fine-same _ _ h in
       rw e at (fits-append ys zs (f ys refl) (g zs refl))
 
-  module _ {A : Type 0} (g : A → Outcome (List Stored)) (P : A → Type 0) (fit : (a : A) → P a → (xs : List Stored) → g a ≡ fine xs → Fits n xs) where
+  module _ {A : Type 0} (g : A → Outcome (List Stored)) (P : A → Type 0)
+      (fit : (a : A) → P a → (xs : List Stored) → g a ≡ fine xs → Fits n xs) where
     collect-fits : (w : Walk A) → All P w → (xs : List Stored) → collect g w ≡ fine xs → Fits n xs
     collect-fits end all [] h = tt
     collect-fits end all (x ∷ xs) h = let z : _≡_ {A = ℕ} 0 1 = cc in absurd (omega arith)
     collect-fits (broken e) all xs h = absurd (stop-fine e xs h)
     collect-fits (more a w) all xs h = both-fit (g a) (collect g w) (fit a (all .0)) (collect-fits w (all .1)) xs h
 
-  storing-fits : (passed : Bool) (index : VersionIndex) (version : Outcome Version) → (passed ≡ false → storeNeeds index ≤ n)
+  storing-fits : (passed : Bool) (index : VersionIndex) (version : Outcome Version)
+      → (passed ≡ false → storeNeeds index ≤ n)
       → (xs : List Stored) → storing passed index version ≡ fine xs → Fits n xs
   storing-fits true index version room [] h = tt
   storing-fits true index version room (x ∷ xs) h = let z : _≡_ {A = ℕ} 0 1 = cc in absurd (omega arith)
@@ -118,25 +125,35 @@ module _ (n : ℕ) where
       subst (λ (l : List Stored). Fits n l) e one
 
   module _ (order : Order) (s strings : List ℕ) where
-    def-fits : (d : Record) → DefRoom order s n d → (xs : List Stored) → defEntries order s strings d ≡ fine xs → Fits n xs
+    def-fits : (d : Record) → DefRoom order s n d → (xs : List Stored) → defEntries order s strings d ≡ fine xs
+        → Fits n xs
     def-fits d room xs h =
-        storing-fits (passedOver order s d) (defIndex order s d) (defVersion order s strings d) (λ kept. room (or-left (isBase order s d) _ kept)) xs h
+        storing-fits (passedOver order s d) (defIndex order s d) (defVersion order s strings d)
+        (λ kept. room (or-left (isBase order s d) _ kept)) xs h
 
-    aux-fits : (file : ℕ) (a : Aux) → AuxRoom order s n a → (xs : List Stored) → auxEntries order s strings file a ≡ fine xs → Fits n xs
+    aux-fits : (file : ℕ) (a : Aux) → AuxRoom order s n a → (xs : List Stored)
+        → auxEntries order s strings file a ≡ fine xs → Fits n xs
     aux-fits file a room xs h =
-        storing-fits (isSpecial (needIndex order s a)) (needIndex order s a) (needVersion order s strings file a) (λ kept. room) xs h
+        storing-fits (isSpecial (needIndex order s a)) (needIndex order s a) (needVersion order s strings file a)
+        (λ kept. room) xs h
 
-    need-fits : (r : Record) → NeedRoom order s n r → (xs : List Stored) → needEntries order s strings r ≡ fine xs → Fits n xs
+    need-fits : (r : Record) → NeedRoom order s n r → (xs : List Stored) → needEntries order s strings r ≡ fine xs
+        → Fits n xs
     need-fits r room xs h =
-        collect-fits (auxEntries order s strings _) (AuxRoom order s n) (aux-fits _) (vernauxs order s (needCount order s r) (r .aux)) room xs h
+        collect-fits (auxEntries order s strings _) (AuxRoom order s n) (aux-fits _)
+        (vernauxs order s (needCount order s r) (r .aux)) room xs h
 
-  pub entries-fit : (order : Order) (verdef verneed strings : List ℕ) (high : VersionIndex) → highest order verdef verneed ≡ fine high
+  pub entries-fit : (order : Order) (verdef verneed strings : List ℕ) (high : VersionIndex)
+      → highest order verdef verneed ≡ fine high
       → storeNeeds high ≤ n → (xs : List Stored) → entries order verdef verneed strings ≡ fine xs → Fits n xs
   entries-fit order verdef verneed strings high h room xs =
       let rooms = highest-room order verdef verneed n high h room in
-      both-fit (collect (defEntries order verdef strings) (verdefs order verdef 0)) (collect (needEntries order verneed strings) (verneeds order verneed 0))
-      (collect-fits (defEntries order verdef strings) (DefRoom order verdef n) (def-fits order verdef strings) (verdefs order verdef 0) (rooms .0))
-      (collect-fits (needEntries order verneed strings) (NeedRoom order verneed n) (need-fits order verneed strings) (verneeds order verneed 0) (rooms .1))
+      both-fit (collect (defEntries order verdef strings) (verdefs order verdef 0))
+      (collect (needEntries order verneed strings) (verneeds order verneed 0))
+      (collect-fits (defEntries order verdef strings) (DefRoom order verdef n) (def-fits order verdef strings)
+      (verdefs order verdef 0) (rooms .0))
+      (collect-fits (needEntries order verneed strings) (NeedRoom order verneed n) (need-fits order verneed strings)
+      (verneeds order verneed 0) (rooms .1))
       xs
 
 abbrev zeros : (n : ℕ) → List ℕ
@@ -149,8 +166,10 @@ abbrev table-of : VersionIndex → Outcome (List ℕ) → Outcome Table
 table-of high filled = bind filled (λ store. fine (record { highest = high; store = store }))
 
 module _ (order : Order) (verdef verneed strings : List ℕ) (n : ℕ) (table : Table)
-    (done : parsed order verdef verneed strings n ≡ fine table) (xs : List Stored) (listed : entries order verdef verneed strings ≡ fine xs) where
-  pub parsed-from : (highest order verdef verneed ≡ fine (table .highest)) × (storeNeeds (table .highest) ≤ n) × (table .store ≡ foldl putEntry (zeros n) xs)
+    (done : parsed order verdef verneed strings n
+    ≡ fine table) (xs : List Stored) (listed : entries order verdef verneed strings ≡ fine xs) where
+  pub parsed-from : (highest order verdef verneed
+      ≡ fine (table .highest)) × (storeNeeds (table .highest) ≤ n) × (table .store ≡ foldl putEntry (zeros n) xs)
   unfolding parsedInto
   parsed-from =
       let fits = cond-fine (anyLong (verdef ∷ verneed ∷ strings ∷ [])) tooLong _ table done .1 in
@@ -161,7 +180,8 @@ module _ (order : Order) (verdef verneed strings : List ℕ) (n : ℕ) (table : 
       let all : table-of (high .0) (folded putEntry (zeros n) (entries order verdef verneed strings)) ≡ fine made =
       ap (λ (o : Outcome (List Stored)). table-of (high .0) (folded putEntry (zeros n) o)) listed in
       let whole : table ≡ made = fine-same table made (sym (room .1) ∙ all) in
-      let enough : storeNeeds (high .0) ≤ length (zeros n) = ltb-false (length (zeros n)) (storeNeeds (high .0)) (room .0) in (
+      let enough : storeNeeds (high .0) ≤ length (zeros n) =
+      ltb-false (length (zeros n)) (storeNeeds (high .0)) (room .0) in (
         high .1 ∙ ap (λ (t : Table). fine (t .highest)) (sym whole),
         omega (arith, zeros-length n, ap (λ (t : Table). t .highest .0) whole),
         ap (λ (t : Table). t .store) whole,
@@ -176,15 +196,18 @@ zeros-at n j = by (ltb j n) refl
 
 module _ (order : Order) (verdef verneed strings : List ℕ) (n : ℕ) (table : Table)
     (done : parsed order verdef verneed strings n ≡ fine table) (k : ℕ) (inner : k < entrySize) where
-  pub stored-last : (before after : List Stored) (x : Stored) → entries order verdef verneed strings ≡ fine (before ++ (x ∷ after))
+  pub stored-last : (before after : List Stored) (x : Stored)
+      → entries order verdef verneed strings ≡ fine (before ++ (x ∷ after))
       → Absent (x .index) after → numberAt (table .store) (x .index) k ≡ getD (versionNumbers (x .version)) k 0
   stored-last before after x listed none =
       let from = parsed-from order verdef verneed strings n table done (before ++ (x ∷ after)) listed in
-      let fit = entries-fit n order verdef verneed strings (table .highest) (from .0) (from .1) (before ++ (x ∷ after)) listed in
+      let fit =
+      entries-fit n order verdef verneed strings (table .highest) (from .0) (from .1) (before ++ (x ∷ after)) listed in
       ap (λ (l : List ℕ). numberAt l (x .index) k) (from .2)
       ∙ folded-last before after x (zeros n) k inner (rw (zeros-length n) (fits-middle n before after x fit)) none
 
-  pub stored-none : (xs : List Stored) → entries order verdef verneed strings ≡ fine xs → (index : VersionIndex) → Absent index xs
+  pub stored-none : (xs : List Stored) → entries order verdef verneed strings ≡ fine xs → (index : VersionIndex)
+      → Absent index xs
       → numberAt (table .store) index k ≡ 0
   stored-none xs listed index none =
       ap (λ (l : List ℕ). numberAt l index k) (parsed-from order verdef verneed strings n table done xs listed .2)

@@ -3,28 +3,27 @@
 --     match-of       and the other way round
 --     match-one      two needs that one symbol matches are the same
 -- Assumes nothing.
-use Prim.Native.Nat.{ℕ, _≤_, _<_, _+_}
+use Prim.Native.Nat.{ℕ}
 use mathlib.Core.Path.{_≡_, refl, sym, ap, _∙_}
-use mathlib.Core.Bool.{Bool, true, false, _&&_}
+use mathlib.Core.Bool.{true}
 use mathlib.Core.List.{List}
-use native.Mathlib.Omega.{arith}
 use lib.Dec.{eqb}
-use lib.ListN.{length, take, drop}
 use borrow.Author.Tests.{eq-eqb, eqb-true}
 use Rattle.endian.specs.declared.kinds.Order.{Order}
 use Rattle.strings.specs.Strings.{same}
-use Rattle.strings.proofs.Meaning.{same-refl, same-true}
+use Rattle.strings.proofs.Meaning.{false-true, same-refl, same-true}
 use Rattle.symbol.specs.declared.table.SymbolIndex.{SymbolIndex}
-use Rattle.version.specs.Table.{entryAt, versymAt, nameOf, isNeeded, satisfied, matchOf, matching}
+use Rattle.version.specs.Table.{entryAt, versymAt, nameOf, satisfied, matchOf, matching}
 use Rattle.version.specs.declared.store.Version.{Version}
 use Rattle.version.specs.declared.table.EntryAt.{EntryAt}
 use Rattle.version.specs.declared.table.Versym.{Versym}
 use Rattle.version.specs.declared.table.VersymAt.{VersymAt}
 use Rattle.version.specs.declared.table.Need.{Need}
-use Rattle.version.proofs.Entered.{false-true, and-both}
+use Rattle.version.proofs.Entered.{and-both}
 
 -- the version of a symbol, with a hash and a name
-pub record Bound (order : Order) (versyms store strings : List ℕ) (symbol : SymbolIndex) (hash : ℕ) (name : List ℕ) : Type 0 where
+pub record Bound (order : Order) (versyms store strings : List ℕ) (symbol : SymbolIndex) (hash : ℕ)
+    (name : List ℕ) : Type 0 where
   pub versym : Versym
   pub version : Version
   pub symbols : versymAt order versyms symbol ≡ VersymAt.At versym
@@ -40,7 +39,8 @@ module _ (order : Order) (versyms store strings : List ℕ) (symbol : SymbolInde
     match-need h = by (versymAt order versyms symbol) refl h
       where
         inner : (m : Versym) → versymAt order versyms symbol ≡ VersymAt.At m
-            → (e : EntryAt) → entryAt store strings (m .index) ≡ e → satisfied strings (m .hidden) (Need.Hash hash) name e ≡ true
+            → (e : EntryAt) → entryAt store strings (m .index) ≡ e → satisfied strings (m .hidden) (Need.Hash hash) name e
+            ≡ true
             → Bound order versyms store strings symbol hash name
         inner m v (EntryAt.Refused r) e h = false-true h
         inner m v EntryAt.Special e h = false-true h

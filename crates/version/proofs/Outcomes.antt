@@ -21,7 +21,8 @@ module _ {A : Type 0} where
   pub stop-fine : (e : Refusal) (a : A) → stop e ≡ fine a → ⊥
   stop-fine e a h = let z : _≡_ {A = ℕ} 0 1 = cc in omega arith
 
-  pub cond-fine : (t : Bool) (e : Refusal) (k : Outcome A) (a : A) → cond t (stop e) k ≡ fine a → (t ≡ false) × (k ≡ fine a)
+  pub cond-fine : (t : Bool) (e : Refusal) (k : Outcome A) (a : A) → cond t (stop e) k ≡ fine a
+      → (t ≡ false) × (k ≡ fine a)
   cond-fine true e k a h = absurd (stop-fine e a h)
   cond-fine false e k a h = (refl, h)
 

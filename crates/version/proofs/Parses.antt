@@ -5,7 +5,7 @@
 --     answered, stored-done, stored-refused     the answer, and the store, from what the two say together
 -- Assumes nothing.
 use Prim.Native.Nat.{ℕ, _<_, _≤_}
-use mathlib.Core.Path.{_≡_, refl, sym, ap, _∙_}
+use mathlib.Core.Path.{_≡_, sym, ap, _∙_}
 use mathlib.Core.List.{List}
 use lib.ListN.{length, replicate}
 use borrow.Author.Tests.{lt-ltb, le-ltb}
@@ -26,7 +26,8 @@ module _ (order : Order) (verdef verneed strings st : List ℕ) where
   unfolding parsedInto
   parsed-long-verdef h = rw (lt-ltb _ _ h)
 
-  pub parsed-long-verneed : length verdef ≤ limit → limit < length verneed → stop tooLong ≡ parsedInto order verdef verneed strings st
+  pub parsed-long-verneed : length verdef ≤ limit → limit < length verneed
+      → stop tooLong ≡ parsedInto order verdef verneed strings st
   unfolding parsedInto
   parsed-long-verneed d h = rw (le-ltb _ _ d, lt-ltb _ _ h)
 
@@ -36,7 +37,8 @@ module _ (order : Order) (verdef verneed strings st : List ℕ) where
   parsed-long-strings d n h = rw (le-ltb _ _ d, le-ltb _ _ n, lt-ltb _ _ h)
 
   module _ (d : length verdef ≤ limit) (n : length verneed ≤ limit) (s : length strings ≤ limit) where
-    pub parsed-first : (e : Refusal) → highest order verdef verneed ≡ stop e → stop e ≡ parsedInto order verdef verneed strings st
+    pub parsed-first : (e : Refusal) → highest order verdef verneed ≡ stop e
+        → stop e ≡ parsedInto order verdef verneed strings st
     unfolding parsedInto
     parsed-first e h = rw (le-ltb _ _ d, le-ltb _ _ n, le-ltb _ _ s, h)
 
@@ -61,8 +63,10 @@ module _ (n : ℕ) (l : List ℕ) (o : Outcome Table) where
   answered (Parsed.Highest high) h = ap answerOf h
   answered (Parsed.Refused e) h = ap answerOf h
 
-  pub stored-done : (r : Parsed) (high : VersionIndex) → r ≡ Parsed.Highest high → parsedOutcome r l ≡ o → l ≡ storeAfter n o
+  pub stored-done : (r : Parsed) (high : VersionIndex) → r ≡ Parsed.Highest high → parsedOutcome r l ≡ o
+      → l ≡ storeAfter n o
   stored-done r high d h = ap (storeAfter n) (ap (λ (r : Parsed). parsedOutcome r l) (sym d) ∙ h)
 
-  pub stored-refused : (r : Parsed) (e : Refusal) → r ≡ Parsed.Refused e → parsedOutcome r l ≡ o → replicate n 0 ≡ storeAfter n o
+  pub stored-refused : (r : Parsed) (e : Refusal) → r ≡ Parsed.Refused e → parsedOutcome r l ≡ o
+      → replicate n 0 ≡ storeAfter n o
   stored-refused r e d h = ap (storeAfter n) (ap (λ (r : Parsed). parsedOutcome r l) (sym d) ∙ h)

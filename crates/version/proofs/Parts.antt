@@ -11,7 +11,6 @@ use borrow.Author.Tests.{ltb-true, ltb-false}
 use Rattle.endian.specs.First.{first}
 use Rattle.endian.specs.Refusals.{limit, tooLong, noString}
 use Rattle.strings.specs.Strings.{isZero, readable, stringAt}
-use Rattle.strings.specs.declared.StringAt.{StringAt}
 use Rattle.strings.specs.declared.StringAt.the-variants.{At, Refused}
 
 readable-inside : (strings : List ℕ) (offset : ℕ) → readable (drop offset strings) ≡ true
@@ -28,7 +27,8 @@ string-inside strings offset start len read =
     by (ltb limit (length strings)) refl (readable (drop offset strings)) refl read
   where
     by : (t : Bool) → ltb limit (length strings) ≡ t → (u : Bool) → readable (drop offset strings) ≡ u
-        → cond t (Refused tooLong) (cond u (At offset (first isZero (drop offset strings))) (Refused noString)) ≡ At start len
+        → cond t (Refused tooLong) (cond u (At offset (first isZero (drop offset strings))) (Refused noString))
+        ≡ At start len
         → (start + len < length strings) × (length strings ≤ limit)
     by true e u f g = let z : _≡_ {A = ℕ} 0 1 = cc in absurd (omega arith)
     by false e false f g = let z : _≡_ {A = ℕ} 0 1 = cc in absurd (omega arith)

@@ -76,7 +76,8 @@ module _ (st : List ℕ) (x : Stored) where
   unfolding putEntry
   length-put = length-sets st (x .index .0 * entrySize) (versionNumbers (x .version))
 
-pub zero-all : (st : List ℕ) (i : ℕ) → i ≤ length st → length st ≤ i → replicate i 0 ++ drop i st ≡ replicate (length st) 0
+pub zero-all : (st : List ℕ) (i : ℕ) → i ≤ length st → length st ≤ i
+    → replicate i 0 ++ drop i st ≡ replicate (length st) 0
 zero-all st i h l =
     let e : i ≡ length st = omega arith in
     rw (drop-of-length-le st l) (append-nil (replicate i 0) ∙ ap (λ (n : ℕ). replicate n 0) e)

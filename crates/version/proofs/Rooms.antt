@@ -3,18 +3,17 @@
 --     all-room            a list: room for each of its records, from room for its highest index
 --     highest-room        both lists
 -- Assumes nothing.
-use Prim.Native.Nat.{ℕ, _+_, _*_, _≤_, max}
-use mathlib.Core.Path.{_≡_, refl, sym, ap, _∙_}
+use Prim.Native.Nat.{ℕ, _≤_}
+use mathlib.Core.Path.{_≡_, sym, ap, _∙_}
 use mathlib.Core.List.{List, [], _∷_, foldl}
-use mathlib.Core.Bool.{Bool, true, false, cond}
 use native.Mathlib.Omega.{arith}
 use Rattle.endian.specs.declared.kinds.Order.{Order}
-use Rattle.version.specs.Outcome.{Outcome, bind, folded}
+use Rattle.version.specs.Outcome.{Outcome, folded}
 use Rattle.version.specs.Outcome.Outcome.{fine, stop}
 use Rattle.version.specs.Walk.{Walk, collect}
 use Rattle.version.specs.Walk.Walk.{end, broken, more}
 use Rattle.version.specs.Records.{verdefs, verneeds, vernauxs}
-use Rattle.version.specs.Highest.{isBase, defIndex, needIndex, needCount, higherOf, defIndices, auxIndices, needIndices, highest}
+use Rattle.version.specs.Highest.{defIndex, needIndex, needCount, higherOf, defIndices, auxIndices, needIndices, highest}
 use Rattle.version.specs.Store.{storeNeeds}
 use Rattle.version.specs.Room.{All, DefRoom, AuxRoom, NeedRoom}
 use Rattle.version.specs.declared.index.VersionIndex.{VersionIndex}
@@ -36,7 +35,8 @@ foldl-keeps (x ∷ xs) high =
     let rest = foldl-keeps xs (higherOf high x) in
     omega (arith, higherOf-keeps high x)
 
-pub folded-keeps : (o : Outcome (List VersionIndex)) (low high : VersionIndex) → folded higherOf low o ≡ fine high → low .0 ≤ high .0
+pub folded-keeps : (o : Outcome (List VersionIndex)) (low high : VersionIndex) → folded higherOf low o ≡ fine high
+    → low .0 ≤ high .0
 folded-keeps (stop e) low high h = absurd (stop-fine e high h)
 folded-keeps (fine xs) low high h =
     let e : foldl higherOf low xs .0 ≡ high .0 = ap (λ (x : VersionIndex). x .0) (fine-same _ _ h) in
@@ -44,7 +44,8 @@ folded-keeps (fine xs) low high h =
 
 module _ {A : Type 0} (n : ℕ) (g : A → Outcome (List VersionIndex)) (P : A → Type 0)
     (room : (a : A) (low high : VersionIndex) → folded higherOf low (g a) ≡ fine high → storeNeeds high ≤ n → P a) where
-  pub all-room : (w : Walk A) (low high : VersionIndex) → folded higherOf low (collect g w) ≡ fine high → storeNeeds high ≤ n → All P w
+  pub all-room : (w : Walk A) (low high : VersionIndex) → folded higherOf low (collect g w) ≡ fine high
+      → storeNeeds high ≤ n → All P w
   all-room end low high h fits = tt
   all-room (broken e) low high h fits = tt
   all-room (more a w) low high h fits =
@@ -54,7 +55,8 @@ module _ {A : Type 0} (n : ℕ) (g : A → Outcome (List VersionIndex)) (P : A �
       (room a low (k .0) (k .1) (omega arith), all-room w (k .0) high (k .2) fits)
 
 module _ (order : Order) (s : List ℕ) (n : ℕ) where
-  def-room : (d : Record) (low high : VersionIndex) → folded higherOf low (defIndices order s d) ≡ fine high → storeNeeds high ≤ n
+  def-room : (d : Record) (low high : VersionIndex) → folded higherOf low (defIndices order s d) ≡ fine high
+      → storeNeeds high ≤ n
       → DefRoom order s n d
   unfolding defIndices
   def-room d low high h fits kept =
@@ -62,17 +64,20 @@ module _ (order : Order) (s : List ℕ) (n : ℕ) where
       let e : higherOf low (defIndex order s d) .0 ≡ high .0 = ap (λ (x : VersionIndex). x .0) (fine-same _ _ one) in
       omega (arith, higherOf-takes low (defIndex order s d))
 
-  aux-room : (a : Aux) (low high : VersionIndex) → folded higherOf low (auxIndices order s a) ≡ fine high → storeNeeds high ≤ n
+  aux-room : (a : Aux) (low high : VersionIndex) → folded higherOf low (auxIndices order s a) ≡ fine high
+      → storeNeeds high ≤ n
       → AuxRoom order s n a
   unfolding auxIndices
   aux-room a low high h fits =
       let e : higherOf low (needIndex order s a) .0 ≡ high .0 = ap (λ (x : VersionIndex). x .0) (fine-same _ _ h) in
       omega (arith, higherOf-takes low (needIndex order s a))
 
-  need-room : (r : Record) (low high : VersionIndex) → folded higherOf low (needIndices order s r) ≡ fine high → storeNeeds high ≤ n
+  need-room : (r : Record) (low high : VersionIndex) → folded higherOf low (needIndices order s r) ≡ fine high
+      → storeNeeds high ≤ n
       → NeedRoom order s n r
   need-room r low high h fits =
-      all-room n (auxIndices order s) (AuxRoom order s n) aux-room (vernauxs order s (needCount order s r) (r .aux)) low high h fits
+      all-room n (auxIndices order s) (AuxRoom order s n) aux-room
+      (vernauxs order s (needCount order s r) (r .aux)) low high h fits
 
 pub highest-room : (order : Order) (verdef verneed : List ℕ) (n : ℕ) (high : VersionIndex)
     → highest order verdef verneed ≡ fine high → storeNeeds high ≤ n
@@ -83,6 +88,8 @@ highest-room order verdef verneed n high h fits =
     let k = bind-from (folded higherOf (record { 0 = 0 }) defs) (λ mid. folded higherOf mid needs) high
     (sym (folded-both higherOf (record { 0 = 0 }) defs needs) ∙ h) in
     let up = folded-keeps needs (k .0) high (k .2) in (
-      all-room n (defIndices order verdef) (DefRoom order verdef n) (def-room order verdef n) (verdefs order verdef 0) _ (k .0) (k .1) (omega arith),
-      all-room n (needIndices order verneed) (NeedRoom order verneed n) (need-room order verneed n) (verneeds order verneed 0) (k .0) high (k .2) fits,
+      all-room n (defIndices order verdef) (DefRoom order verdef n) (def-room order verdef n) (verdefs order verdef 0) _
+          (k .0) (k .1) (omega arith),
+      all-room n (needIndices order verneed) (NeedRoom order verneed n) (need-room order verneed n)
+          (verneeds order verneed 0) (k .0) high (k .2) fits,
     )

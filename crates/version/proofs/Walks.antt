@@ -2,7 +2,7 @@
 --     Onward                                    each record that can be read lies before the next
 --     chain-end, chain-more, chain-stop         at the end of the bytes; at a record; at a refusal
 --     counted-end, counted-more, counted-stop   the same of a counted chain
---     collect-end, collect-broken               the ways out of a loop over a walk: at the end, by a record that cannot be read
+--     collect-end, collect-broken               the ways out of a loop over a walk: at the end; by a record that is refused
 --     collect-turn, collect-leave               one turn of it; the way out by what a record gives
 --     counted-repeat                            a record that is its own next, and changes nothing the second time
 --     all-first, all-rest                       what holds of every record
@@ -41,7 +41,8 @@ module _ {A : Type 0} (step : ℕ → Outcome A) (next : A → ℕ) (n : ℕ) wh
   fuel-end (suc k) at h = rw (le-ltb at n h)
 
   -- any two amounts of fuel that suffice give the same walk
-  enough : Onward step next n → (k j at : ℕ) → n - at ≤ k → n - at ≤ j → chainFuel step next n k at ≡ chainFuel step next n j at
+  enough : Onward step next n → (k j at : ℕ) → n - at ≤ k → n - at ≤ j
+      → chainFuel step next n k at ≡ chainFuel step next n j at
   enough onward zero j at hk hj = sym (fuel-end j at (omega arith))
   enough onward (suc k) zero at hk hj = fuel-end (suc k) at (omega arith)
   enough onward (suc k) (suc j) at hk hj =
@@ -55,7 +56,8 @@ module _ {A : Type 0} (step : ℕ → Outcome A) (next : A → ℕ) (n : ℕ) wh
   unfolding chain
   chain-end at h = fuel-end (n - at) at h
 
-  chain-link : Onward step next n → (at : ℕ) → at < n → chain step next n at ≡ link (step at) (λ a. chain step next n (next a))
+  chain-link : Onward step next n → (at : ℕ) → at < n
+      → chain step next n at ≡ link (step at) (λ a. chain step next n (next a))
   unfolding chain
   chain-link onward at h =
       enough onward (n - at) (suc (n - at)) at (omega arith) (omega arith)
@@ -67,11 +69,13 @@ module _ {A : Type 0} (step : ℕ → Outcome A) (next : A → ℕ) (n : ℕ) wh
       → chain step next n at ≡ more a (chain step next n (next a))
   chain-more onward at a h e = chain-link onward at h ∙ ap (λ (o : Outcome A). link o (λ a. chain step next n (next a))) e
 
-  pub chain-stop : Onward step next n → (at : ℕ) (e : Refusal) → at < n → step at ≡ stop e → chain step next n at ≡ broken e
+  pub chain-stop : Onward step next n → (at : ℕ) (e : Refusal) → at < n → step at ≡ stop e
+      → chain step next n at ≡ broken e
   chain-stop onward at e h s = chain-link onward at h ∙ ap (λ (o : Outcome A). link o (λ a. chain step next n (next a))) s
 
 module _ {A : Type 0} (step : ℕ → Outcome A) (next : A → ℕ) where
-  counted-link : (left at : ℕ) → 0 < left → counted step next left at ≡ link (step at) (λ a. counted step next (left - 1) (next a))
+  counted-link : (left at : ℕ) → 0 < left
+      → counted step next left at ≡ link (step at) (λ a. counted step next (left - 1) (next a))
   counted-link zero at h = absurd (not-suc-le-zero h)
   counted-link (suc k) at h = rw (sub-one (suc k))
 
@@ -106,7 +110,8 @@ module _ {A B C : Type 0} (f : C → B → C) (g : A → Outcome (List B)) (c : 
 
 module _ {A B C : Type 0} (f : C → B → C) (g : A → Outcome (List B)) (step : ℕ → Outcome A) (next : A → ℕ)
     (at : ℕ) (a : A) (read : step at ≡ fine a) (again : next a ≡ at) where
-  steady : (c : C) → fine c ≡ folded f c (g a) → (count : ℕ) → folded f c (collect g (counted step next count at)) ≡ fine c
+  steady : (c : C) → fine c ≡ folded f c (g a) → (count : ℕ)
+      → folded f c (collect g (counted step next count at)) ≡ fine c
   steady c same zero = refl
   steady c same (suc count) =
       collect-turn f g c (counted step next (suc count) at) a (counted step next count at) c

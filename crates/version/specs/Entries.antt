@@ -79,7 +79,8 @@ auxEntries order s strings file a =
 
 abbrev pub needEntries : Order → (s strings : List ℕ) → Record → Outcome (List Stored)
 needEntries order s strings r =
-    collect (auxEntries order s strings (fieldAt order s (r .at) (verneed .file))) (vernauxs order s (needCount order s r) (r .aux))
+    collect (auxEntries order s strings (fieldAt order s (r .at) (verneed .file)))
+    (vernauxs order s (needCount order s r) (r .aux))
 
 abbrev pub entries : Order → (verdef verneed strings : List ℕ) → Outcome (List Stored)
 entries order verdef verneed strings =

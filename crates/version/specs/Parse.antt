@@ -1,6 +1,6 @@
 -- Version parsing as a whole (01, module 5 and "The store"): what it answers, and the store after it.
 --     Table                  the highest index and the store
---     parsedInto             what parsing comes to over a store that holds something: 1, the first pass, 22, the second pass
+--     parsedInto             what parsing comes to over a store: 1, the first pass, 22, the second pass
 --     parsed                 the same over n zeros
 --     answerOf, storeAfter   what is answered, and the n numbers of the store afterwards: all 0 after a refusal
 --     parsedOutcome          what an answer says, with the store that is left

@@ -1,4 +1,5 @@
--- The records of the version sections at a place (01, module 5), and their lists. Places count from their record and may reach the end.
+-- The records of the version sections at a place (01, module 5), and their lists. Places count from their record and may
+-- reach the end.
 --     verdefShape, verneedShape    what a record of a list is tested for, and its refusals
 --     verdauxShape, vernauxShape   the same of a record of a chain
 --     placeAfter                   where the next record of a list is: the end where `next` is 0

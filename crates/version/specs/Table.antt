@@ -4,7 +4,7 @@
 --     entryAt                the version behind an index
 --     versymOf, versymAt     the versym of a symbol, or 1 where there is none, and what it says
 --     nameOf                 the bytes of a version's name
---     isNeeded, satisfied    whether a version has the hash and the name; whether what stands behind an index is what is needed
+--     isNeeded, satisfied    whether a version has the hash and the name; whether what is behind an index is what is needed
 --     matching               whether the version of a symbol is the one that is needed; never where a part is too long
 -- Assumes nothing.
 use Prim.Native.Nat.{ℕ, _+_, _*_, _%_}
@@ -24,7 +24,6 @@ use Rattle.version.specs.declared.index.VersionIndex.{VersionIndex}
 use Rattle.version.specs.declared.store.Part.{Part}
 use Rattle.version.specs.declared.store.Version.{Version}
 use Rattle.version.specs.declared.table.EntryAt.{EntryAt}
-use Rattle.version.specs.declared.table.Versym.{Versym}
 use Rattle.version.specs.declared.table.VersymAt.{VersymAt}
 use Rattle.version.specs.declared.table.Need.{Need}
 
@@ -88,7 +87,8 @@ satisfied strings hidden (Need.Hash hash) name (EntryAt.At v) = isNeeded strings
 
 abbrev pub matchOf : (store strings : List ℕ) → Need → (name : List ℕ) → VersymAt → Bool
 matchOf store strings need name (VersymAt.Refused r) = false
-matchOf store strings need name (VersymAt.At v) = satisfied strings (v .hidden) need name (entryAt store strings (v .index))
+matchOf store strings need name (VersymAt.At v) =
+    satisfied strings (v .hidden) need name (entryAt store strings (v .index))
 
 unfoldable pub matching : Order → (versyms store strings : List ℕ) → SymbolIndex → Need → (name : List ℕ) → Bool
 matching order versyms store strings symbol need name = matchOf store strings need name (versymAt order versyms symbol)

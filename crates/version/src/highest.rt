@@ -15,7 +15,6 @@ use endian::kinds::Order;
 use endian::refusals::Refusal;
 use endian::words::u16_at;
 ghost use mathlib.Core.Path.{_≡_};
-ghost use mathlib.Core.Bool.{Bool};
 ghost use Prim.Native.Nat.{_≤_};
 ghost use lib.ListN.{length};
 ghost use Rattle.version.specs.Outcome.Outcome.{fine};

@@ -7,12 +7,10 @@ use Rattle.endian.specs.declared.kinds.Order.{Order}
 use Rattle.endian.specs.Refusals.{badVerdauxName}
 use Rattle.endian.specs.Word.{wordAt, fieldAt}
 use Rattle.version.specs.Layouts.{verdaux}
-use Rattle.version.specs.Outcome.{Outcome}
 use Rattle.version.specs.Outcome.Outcome.{fine, stop}
 use Rattle.version.specs.Records.{verdauxShape, auxAt, auxOutcome, auxRefusal}
 use Rattle.version.specs.Entries.{noFile, defVersion, partAt, partOutcome}
 use Rattle.version.specs.declared.records.Aux.{Aux}
-use Rattle.version.specs.declared.records.Record.{Record}
 use Rattle.version.specs.declared.store.Version.{Version}
 use Rattle.version.proofs.Outcomes.{bind-fine, bind-stop}
 use borrow.Author.Needs.{needs}
@@ -42,7 +40,8 @@ module _ (k : tie.After-part-at) where
   name-read : partAt badVerdauxName (start .args .strings .now) (fieldAt order s (a .at) (verdaux .name))
       ≡ partOutcome (k .part-at .result)
   name-read =
-      ap (partAt badVerdauxName (start .args .strings .now)) (ap (wordAt order 4 s) (add-zero (a .at)) ∙ sym (k .before .u32-at .ensures))
+      ap (partAt badVerdauxName (start .args .strings .now))
+      (ap (wordAt order 4 s) (add-zero (a .at)) ∙ sym (k .before .u32-at .ensures))
       ∙ sym (k .part-at .ensures)
 
 aux-at-requires : tie.Need-aux-at-requires

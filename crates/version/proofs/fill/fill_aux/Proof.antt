@@ -1,5 +1,5 @@
 -- `version::fill::fill_aux` meets its contract. A needed version is special, or it is put. Assumes nothing.
-use mathlib.Core.Path.{_≡_, sym, ap, _∙_}
+use mathlib.Core.Path.{sym, ap, _∙_}
 use Rattle.version.specs.Index.{isSpecial}
 use Rattle.version.proofs.Again.{storing-over, storing-kept}
 use borrow.Author.Needs.{needs}
@@ -15,7 +15,8 @@ is-special-requires c κs = search needs
 returns : tie.Need-returns
 returns c =
     let special = c .before in
-    storing-over _ _ _ _ (sym (special .is-special .ensures ∙ ap isSpecial (special .before .need-index .ensures)) ∙ c .if1 .taken)
+    storing-over _ _ _ _ (sym (special .is-special .ensures ∙ ap isSpecial (special .before .need-index .ensures))
+    ∙ c .if1 .taken)
 
 need-version-requires : tie.Need-need-version-requires
 need-version-requires c κs = search needs
@@ -37,7 +38,8 @@ returns-2 c =
     let found = special .before in
     put .put-version .ensures
     ∙ storing-kept _ _ _ _ _ _
-    (sym (special .is-special .ensures ∙ ap isSpecial (found .need-index .ensures)) ∙ tested .if1 .left) (found .need-index .ensures) (made .need-version .ensures)
+    (sym (special .is-special .ensures ∙ ap isSpecial (found .need-index .ensures)) ∙ tested .if1 .left)
+    (found .need-index .ensures) (made .need-version .ensures)
 
 pub fill-aux-spec : {M : Type 1} → statement M
 fill-aux-spec =

@@ -1,7 +1,7 @@
--- `version::fill::fill_auxs` meets its contract. The invariant: filling from the rest, from here, gives the answer for the whole chain;
--- the store keeps its length and has room for the rest. The measure is the count that is left. A record that is its own next stores the same
--- the second time. Assumes nothing.
-use Prim.Native.Nat.{ℕ, _-_, _≤_, _<_}
+-- `version::fill::fill_auxs` meets its contract. The invariant: filling from the rest, from here, gives the answer for
+-- the whole chain; the store keeps its length and has room for the rest. The measure is the count that is left. A record
+-- that is its own next stores the same the second time. Assumes nothing.
+use Prim.Native.Nat.{ℕ, _-_, _≤_}
 use mathlib.Core.Path.{_≡_, refl, sym, ap, _∙_}
 use mathlib.Core.List.{List}
 use lib.ListN.{length}
@@ -74,16 +74,20 @@ module _ (k : tie.After-step Inv-loop μ-loop) where
 -- the invariant, with the file and the count that were read
 whole : (head : tie.At-loop Inv-loop μ-loop) →
     let args = head .before .before .before .before .before .before .before .args in
-    folded putEntry (head .loop .store) (collect (auxEntries (args .order) (args .s .now) (args .strings .now) (head .before .before .u32-at .result))
+    folded putEntry (head .loop .store) (collect (auxEntries (args .order) (args .s .now) (args .strings .now)
+    (head .before .before .u32-at .result))
     (vernauxs (args .order) (args .s .now) (head .loop .left) (head .loop .at)))
     ≡ folded putEntry (args .store .now) (needEntries (args .order) (args .s .now) (args .strings .now) (args .need))
 whole head =
     let args = head .before .before .before .before .before .before .before .args in
     head .loop .inv .3
-    ∙ ap (λ (n : ℕ). folded putEntry (args .store .now) (collect (auxEntries (args .order) (args .s .now) (args .strings .now) (head .before .before .u32-at .result))
+    ∙ ap (λ (n : ℕ). folded putEntry (args .store .now)
+    (collect (auxEntries (args .order) (args .s .now) (args .strings .now) (head .before .before .u32-at .result))
     (vernauxs (args .order) (args .s .now) n (args .need .aux)))) (head .before .need-count .ensures)
-    ∙ ap (λ (n : ℕ). folded putEntry (args .store .now) (collect (auxEntries (args .order) (args .s .now) (args .strings .now) n)
-    (vernauxs (args .order) (args .s .now) (needCount (args .order) (args .s .now) (args .need)) (args .need .aux)))) (head .before .before .u32-at .ensures)
+    ∙ ap (λ (n : ℕ). folded putEntry (args .store .now)
+    (collect (auxEntries (args .order) (args .s .now) (args .strings .now) n)
+    (vernauxs (args .order) (args .s .now) (needCount (args .order) (args .s .now) (args .need)) (args .need .aux))))
+    (head .before .before .u32-at .ensures)
 
 add-u32-at : tie.Need-add-u32-at Inv-loop μ-loop
 add-u32-at c = search needs
@@ -123,8 +127,10 @@ returns c =
     let told = c .before .enum-told .given .1 in
     let refused : auxAt vernauxShape (args .order) (args .s .now) (head .loop .at) ≡ stop (c .aux-refusal .result) =
     sym (called .aux-at .ensures) ∙ ap auxOutcome told ∙ ap stop (sym (c .aux-refusal .ensures ∙ ap auxRefusal told)) in
-    sym (collect-broken putEntry (auxEntries (args .order) (args .s .now) (args .strings .now) (head .before .before .u32-at .result)) (head .loop .store) _ _
-    (vernauxs-stop (args .order) (args .s .now) (head .loop .left) (head .loop .at) _ (called .before .loop-test .taken) refused))
+    sym (collect-broken putEntry (auxEntries (args .order) (args .s .now) (args .strings .now)
+    (head .before .before .u32-at .result)) (head .loop .store) _ _
+    (vernauxs-stop (args .order) (args .s .now) (head .loop .left) (head .loop .at) _
+    (called .before .loop-test .taken) refused))
     ∙ whole head
 
 fill-aux-requires : tie.Need-fill-aux-requires Inv-loop μ-loop
@@ -150,9 +156,11 @@ returns-2 : tie.Need-returns-2 Inv-loop μ-loop
 returns-2 c =
     let called = c .before .before .before .before in
     let k = called .before .before .before in
-    let told = ap (λ (r : Filled). filledOutcome r (called .fill-aux .last .1 .1 .1 .1 .1 .0)) (c .enum-told3 .given .1) in
+    let told =
+    ap (λ (r : Filled). filledOutcome r (called .fill-aux .last .1 .1 .1 .1 .1 .0)) (c .enum-told3 .given .1) in
     told
-    ∙ sym (collect-leave putEntry (auxEntries (order k) (s k) (strings k) (file k)) (head k .loop .store) _ (a k) _ _ (walk k)
+    ∙ sym (collect-leave putEntry (auxEntries (order k) (s k) (strings k) (file k)) (head k .loop .store) _ (a k) _ _
+    (walk k)
     (sym told ∙ called .fill-aux .ensures))
     ∙ whole (head k)
 
@@ -166,11 +174,14 @@ returns-3 c =
     let told2 = c .before .before in
     let called = told2 .before .before .before .before in
     let k = called .before .before .before in
-    let told = ap (λ (r : Filled). filledOutcome r (called .fill-aux .last .1 .1 .1 .1 .1 .0)) (told2 .enum-told2 .given .1) in
+    let told =
+    ap (λ (r : Filled). filledOutcome r (called .fill-aux .last .1 .1 .1 .1 .1 .0)) (told2 .enum-told2 .given .1) in
     let once = sym told ∙ called .fill-aux .ensures in
-    sym (counted-repeat putEntry (auxEntries (order k) (s k) (strings k) (file k)) (auxAt vernauxShape (order k) (s k)) (λ a. a .next) (at k) (a k) (read k)
+    sym (counted-repeat putEntry (auxEntries (order k) (s k) (strings k) (file k)) (auxAt vernauxShape (order k) (s k))
+    (λ a. a .next) (at k) (a k) (read k)
     (c .if1 .taken) (head k .loop .store) _ (left k) (k .before .before .before .loop-test .taken) once
-    (storing-again _ _ (isSpecial (needIndex (order k) (s k) (a k))) (needIndex (order k) (s k) (a k)) (needVersion (order k) (s k) (strings k) (file k) (a k)) once))
+    (storing-again _ _ (isSpecial (needIndex (order k) (s k) (a k))) (needIndex (order k) (s k) (a k))
+    (needVersion (order k) (s k) (strings k) (file k) (a k)) once))
     ∙ whole (head k)
 
 sub-left : tie.Need-sub-left Inv-loop μ-loop
@@ -185,11 +196,13 @@ loop-again c =
     let called = told2 .before .before .before .before in
     let k = called .before .before .before in
     let inv = head k .loop .inv in
-    let told = ap (λ (r : Filled). filledOutcome r (called .fill-aux .last .1 .1 .1 .1 .1 .0)) (told2 .enum-told2 .given .1) in (
+    let told =
+    ap (λ (r : Filled). filledOutcome r (called .fill-aux .last .1 .1 .1 .1 .1 .0)) (told2 .enum-told2 .given .1) in (
       aux-next vernauxShape (order k) (s k) (at k) (a k) (read k) (inv .0),
       called .fill-aux .kept .1 .1 .1 .1 .1 .0 ∙ inv .1,
       all-rest (AuxRoom (order k) (s k) _) _ (a k) _ (walk k) (inv .2),
-      sym (collect-turn putEntry (auxEntries (order k) (s k) (strings k) (file k)) (head k .loop .store) _ (a k) _ _ (walk k)
+      sym (collect-turn putEntry (auxEntries (order k) (s k) (strings k) (file k)) (head k .loop .store) _ (a k) _ _
+          (walk k)
           (sym told ∙ called .fill-aux .ensures))
           ∙ inv .3,
     )
@@ -202,7 +215,8 @@ returns-4 c =
     let head = c .before in
     let start = head .before .before .before .before .before .before .before in
     let args = start .args in
-    sym (collect-end putEntry (auxEntries (args .order) (args .s .now) (args .strings .now) (head .before .before .u32-at .result)) (head .loop .store) _
+    sym (collect-end putEntry (auxEntries (args .order) (args .s .now) (args .strings .now)
+    (head .before .before .u32-at .result)) (head .loop .store) _
     (vernauxs-end (args .order) (args .s .now) (head .loop .left) (head .loop .at) (c .loop-test .left)))
     ∙ whole head
 

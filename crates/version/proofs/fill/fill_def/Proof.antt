@@ -1,10 +1,5 @@
 -- `version::fill::fill_def` meets its contract. A definition is passed over, or its version is put. Assumes nothing.
-use Prim.Native.Nat.{_≤_}
-use mathlib.Core.Path.{_≡_, sym, ap, subst, _∙_}
-use mathlib.Core.Bool.{Bool, true, false, _||_}
-use lib.ListN.{length}
-use Rattle.version.specs.Store.{storeNeeds}
-use Rattle.version.specs.declared.index.VersionIndex.{VersionIndex}
+use mathlib.Core.Path.{sym, _∙_}
 use Rattle.version.proofs.Again.{storing-over, storing-kept, or-left}
 use borrow.Author.Needs.{needs}
 use Rattle.version.proofs.fill.fill_def.Statement.{statement}
@@ -27,7 +22,8 @@ put-version-requires c κs =
     let found = c .before .before in
     let tested = found .before in
     let start = tested .before .before .before .before .before in
-    rw (found .def-index .ensures) (start .pre .1 (or-left _ _ (sym (tested .before .passed-over .ensures) ∙ tested .if1 .left)))
+    rw (found .def-index .ensures) (start .pre .1 (or-left _ _
+    (sym (tested .before .passed-over .ensures) ∙ tested .if1 .left)))
 
 same-length : tie.Need-same-length
 same-length c = search needs
@@ -38,7 +34,8 @@ returns-2 c =
     let made = put .before .before in
     let tested = made .before .before in
     put .put-version .ensures
-    ∙ storing-kept _ _ _ _ _ _ (sym (tested .before .passed-over .ensures) ∙ tested .if1 .left) (made .before .def-index .ensures) (made .def-version .ensures)
+    ∙ storing-kept _ _ _ _ _ _ (sym (tested .before .passed-over .ensures) ∙ tested .if1 .left)
+    (made .before .def-index .ensures) (made .def-version .ensures)
 
 pub fill-def-spec : {M : Type 1} → statement M
 fill-def-spec =

@@ -1,5 +1,6 @@
--- `version::fill::fill_defs` meets its contract. The invariant: filling from the rest, from here, gives the answer for the whole list;
--- the store keeps its length and has room for the rest. The measure is what is left of the bytes. Assumes nothing.
+-- `version::fill::fill_defs` meets its contract. The invariant: filling from the rest, from here, gives the answer for
+-- the whole list; the store keeps its length and has room for the rest. The measure is what is left of the bytes.
+-- Assumes nothing.
 use Prim.Native.Nat.{ℕ, _-_, _≤_, _<_}
 use mathlib.Core.Path.{_≡_, refl, sym, ap, _∙_}
 use mathlib.Core.List.{List}
@@ -83,7 +84,8 @@ returns c =
     let args = head .before .before .before .before .args in
     let told = c .before .enum-told .given .1 in
     let refused : recordAt verdefShape (args .order) (args .s .now) (head .loop .at) ≡ stop (c .record-refusal .result) =
-    sym (called .record-at .ensures) ∙ ap recordOutcome told ∙ ap stop (sym (c .record-refusal .ensures ∙ ap recordRefusal told)) in
+    sym (called .record-at .ensures) ∙ ap recordOutcome told ∙ ap stop
+    (sym (c .record-refusal .ensures ∙ ap recordRefusal told)) in
     sym (collect-broken putEntry (defEntries (args .order) (args .s .now) (args .strings .now)) (head .loop .store) _ _
     (listed-stop verdefShape (args .order) (args .s .now) (head .loop .at) (called .before .loop-test .taken) _ refused))
     ∙ head .loop .inv .3

@@ -1,5 +1,6 @@
--- `version::fill::fill_needs` meets its contract. The invariant: filling from the rest, from here, gives the answer for the whole list;
--- the store keeps its length and has room for the rest. The measure is what is left of the bytes. Assumes nothing.
+-- `version::fill::fill_needs` meets its contract. The invariant: filling from the rest, from here, gives the answer for
+-- the whole list; the store keeps its length and has room for the rest. The measure is what is left of the bytes.
+-- Assumes nothing.
 use Prim.Native.Nat.{ℕ, _-_, _≤_, _<_}
 use mathlib.Core.Path.{_≡_, refl, sym, ap, _∙_}
 use mathlib.Core.List.{List}
@@ -83,7 +84,8 @@ returns c =
     let args = head .before .before .before .before .args in
     let told = c .before .enum-told .given .1 in
     let refused : recordAt verneedShape (args .order) (args .s .now) (head .loop .at) ≡ stop (c .record-refusal .result) =
-    sym (called .record-at .ensures) ∙ ap recordOutcome told ∙ ap stop (sym (c .record-refusal .ensures ∙ ap recordRefusal told)) in
+    sym (called .record-at .ensures) ∙ ap recordOutcome told ∙ ap stop
+    (sym (c .record-refusal .ensures ∙ ap recordRefusal told)) in
     sym (collect-broken putEntry (needEntries (args .order) (args .s .now) (args .strings .now)) (head .loop .store) _ _
     (listed-stop verneedShape (args .order) (args .s .now) (head .loop .at) (called .before .loop-test .taken) _ refused))
     ∙ head .loop .inv .3
@@ -129,7 +131,8 @@ loop-again c =
     let called = c .before .before .before .before in
     let k = called .before .before .before in
     let inv = head k .loop .inv in
-    let told = ap (λ (r : Filled). filledOutcome r (called .fill-auxs .last .1 .1 .1 .1 .0)) (c .enum-told2 .given .1) in (
+    let told =
+    ap (λ (r : Filled). filledOutcome r (called .fill-auxs .last .1 .1 .1 .1 .0)) (c .enum-told2 .given .1) in (
       record-next verneedShape (order k) (s k) (at k) (r k) (read k) (inv .0),
       called .fill-auxs .kept .1 .1 .1 .1 .0 ∙ inv .1,
       all-rest (NeedRoom (order k) (s k) _) _ (r k) _ (walk k) (inv .2),

@@ -7,8 +7,7 @@ use Rattle.endian.specs.declared.kinds.Order.{Order}
 use Rattle.endian.specs.Refusals.{badVernauxName}
 use Rattle.endian.specs.Word.{wordAt, fieldAt}
 use Rattle.version.specs.Layouts.{vernaux}
-use Rattle.version.specs.Outcome.{Outcome}
-use Rattle.version.specs.Outcome.Outcome.{fine, stop}
+use Rattle.version.specs.Outcome.Outcome.{fine}
 use Rattle.version.specs.Entries.{needVersion, partAt, partOutcome}
 use Rattle.version.specs.declared.records.Aux.{Aux}
 use Rattle.version.specs.declared.store.Version.{Version}
@@ -34,7 +33,8 @@ module _ (k : tie.After-part-at) where
   name-read : partAt badVernauxName (start .args .strings .now) (fieldAt order s (a .at) (vernaux .name))
       ≡ partOutcome (k .part-at .result)
   name-read =
-      ap (partAt badVernauxName (start .args .strings .now)) (sym (k .before .u32-at .ensures)) ∙ sym (k .part-at .ensures)
+      ap (partAt badVernauxName (start .args .strings .now)) (sym (k .before .u32-at .ensures)) ∙ sym
+      (k .part-at .ensures)
 
 add-u32-at : tie.Need-add-u32-at
 add-u32-at c = search needs
@@ -85,7 +85,8 @@ returns-3 c =
     let again = filed .before .before in
     let named = again .before .before in
     let k = named .before .before in
-    let made : ℕ → Version = λ h. record { kind = 2; hash = h; name = named .name .given .0 .0; file = filed .part .given .0 .0 } in
+    let made : ℕ → Version =
+    λ h. record { kind = 2; hash = h; name = named .name .given .0 .0; file = filed .part .given .0 .0 } in
     ap (λ (h : ℕ). fine (made h))
     (c .u32-at2 .ensures ∙ ap (wordAt (order k) 4 (s k)) (sym (add-zero (a k .at))))
     ∙ sym (bind-fine _ _ _ (name-read k ∙ ap partOutcome (named .name .given .1))

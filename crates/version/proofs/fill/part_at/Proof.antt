@@ -1,6 +1,7 @@
--- `version::fill::part_at` meets its contract. A string that was read lies in the strings, so that its place fits. Assumes nothing.
+-- `version::fill::part_at` meets its contract. A string that was read lies in the strings, so that its place fits.
+-- Assumes nothing.
 use Prim.Native.Nat.{_+_, _≤_, _<_}
-use mathlib.Core.Path.{_≡_, sym, ap, _∙_}
+use mathlib.Core.Path.{sym, ap, _∙_}
 use native.Mathlib.Omega.{arith}
 use lib.ListN.{length}
 use Rattle.endian.specs.Refusals.{limit}

@@ -30,7 +30,8 @@ returns-2 c =
     let put = c .before .before in
     let told = put .before .before .before in
     let args = told .before .before .before .args in
-    ap fine (put .put-entry .ensures) ∙ storing-put _ false (args .index) _ _ refl (ap versionOutcome (told .step2 .given .1))
+    ap fine (put .put-entry .ensures) ∙ storing-put _ false (args .index) _ _ refl
+    (ap versionOutcome (told .step2 .given .1))
 
 pub put-version-spec : {M : Type 1} → statement M
 put-version-spec =

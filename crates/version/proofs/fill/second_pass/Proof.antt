@@ -1,8 +1,6 @@
 -- `version::fill::second_pass` meets its contract. One list, then the other. Assumes nothing.
-use Prim.Native.Nat.{ℕ}
 use mathlib.Core.List.{List}
-use mathlib.Core.Path.{_≡_, sym, ap, _∙_}
-use lib.ListN.{length}
+use mathlib.Core.Path.{sym, ap, _∙_}
 use Rattle.version.specs.Outcome.{Outcome}
 use Rattle.version.specs.Walk.{collect}
 use Rattle.version.specs.Records.{verdefs, verneeds}
@@ -20,10 +18,14 @@ module _ (called : tie.After-fill-defs) where
   start = called .before .before .before .before .before .before
 
   abbrev defs : Outcome (List Stored)
-  defs = collect (defEntries (start .args .order) (start .args .verdef .now) (start .args .strings .now)) (verdefs (start .args .order) (start .args .verdef .now) 0)
+  defs =
+      collect (defEntries (start .args .order) (start .args .verdef .now) (start .args .strings .now))
+      (verdefs (start .args .order) (start .args .verdef .now) 0)
 
   abbrev needed : Outcome (List Stored)
-  needed = collect (needEntries (start .args .order) (start .args .verneed .now) (start .args .strings .now)) (verneeds (start .args .order) (start .args .verneed .now) 0)
+  needed =
+      collect (needEntries (start .args .order) (start .args .verneed .now) (start .args .strings .now))
+      (verneeds (start .args .order) (start .args .verneed .now) 0)
 
 fill-defs-requires : tie.Need-fill-defs-requires
 fill-defs-requires c κs = c .before .before .before .before .before .pre .0
@@ -41,7 +43,8 @@ returns : tie.Need-returns
 returns c =
     let called = c .before .before .before .before in
     let told = ap (λ (r : Filled). filledOutcome r (called .fill-defs .last .1 .1 .1 .0)) (c .enum-told2 .given .1) in
-    told ∙ sym (both-leave putEntry (start called .args .store .now) (defs called) (needed called) _ (sym told ∙ called .fill-defs .ensures))
+    told ∙ sym (both-leave putEntry (start called .args .store .now) (defs called) (needed called) _
+    (sym told ∙ called .fill-defs .ensures))
 
 fill-needs-requires : tie.Need-fill-needs-requires
 fill-needs-requires c κs =
@@ -51,7 +54,8 @@ fill-needs-requires c κs =
 same-length-2 : tie.Need-same-length-2
 same-length-2 c =
     let again = c .before .before in
-    again .fill-needs .kept .1 .1 .1 .0 ∙ again .before .before .before .before .before .before .fill-defs .kept .1 .1 .1 .0
+    again .fill-needs .kept .1 .1 .1 .0
+    ∙ again .before .before .before .before .before .before .fill-defs .kept .1 .1 .1 .0
 
 returns-2 : tie.Need-returns-2
 returns-2 c =
@@ -60,7 +64,8 @@ returns-2 c =
     let called = done .before .before .before .before in
     let told = ap (λ (r : Filled). filledOutcome r (called .fill-defs .last .1 .1 .1 .0)) (done .enum-told .given .1) in
     again .fill-needs .ensures
-    ∙ sym (both-go putEntry (start called .args .store .now) (defs called) (needed called) _ (sym told ∙ called .fill-defs .ensures))
+    ∙ sym (both-go putEntry (start called .args .store .now) (defs called) (needed called) _
+    (sym told ∙ called .fill-defs .ensures))
 
 pub second-pass-spec : {M : Type 1} → statement M
 second-pass-spec =

@@ -1,5 +1,4 @@
 -- `version::highest::first_pass` meets its contract. One list, then the other. Assumes nothing.
-use Prim.Native.Nat.{ℕ}
 use mathlib.Core.List.{List}
 use mathlib.Core.Path.{sym, ap, _∙_}
 use Rattle.version.specs.Outcome.{Outcome}
@@ -35,7 +34,8 @@ returns : tie.Need-returns
 returns c =
     let called = c .before .before in
     let told = ap highOutcome (c .enum-told .given .1) in
-    told ∙ sym (both-leave higherOf (record { 0 = 0 }) (defs called) (needed called) _ (sym told ∙ called .highest-def .ensures))
+    told ∙ sym (both-leave higherOf (record { 0 = 0 }) (defs called) (needed called) _
+    (sym told ∙ called .highest-def .ensures))
 
 highest-need-requires : tie.Need-highest-need-requires
 highest-need-requires c κs = search needs

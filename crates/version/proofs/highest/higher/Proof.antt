@@ -1,9 +1,8 @@
 -- `version::highest::higher` meets its contract. Assumes nothing.
-use Prim.Native.Nat.{ℕ, max, _≤_}
+use Prim.Native.Nat.{ℕ, max}
 use mathlib.Core.Path.{_≡_, ap}
 use native.Mathlib.Omega.{arith}
 use Rattle.version.specs.Highest.{higherOf}
-use Rattle.version.specs.declared.index.VersionIndex.{VersionIndex}
 use Rattle.version.proofs.highest.higher.Statement.{statement}
 use Rattle.version.proofs.highest.higher.Tie as tie
 

@@ -1,5 +1,5 @@
 -- `version::highest::higher_def` meets its contract. A definition names one index, or none. Assumes nothing.
-use mathlib.Core.Path.{sym, ap, _∙_}
+use mathlib.Core.Path.{sym, _∙_}
 use Rattle.version.specs.Highest.{defIndices}
 use borrow.Author.Needs.{needs}
 use Rattle.version.proofs.highest.higher_def.Statement.{statement}

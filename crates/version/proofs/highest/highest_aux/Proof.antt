@@ -1,6 +1,7 @@
--- `version::highest::highest_aux` meets its contract. The invariant: going on over the rest, from here, gives the answer for the whole chain.
--- The measure is the count that is left. A record that is its own next gives nothing higher the second time. Assumes nothing.
-use Prim.Native.Nat.{ℕ, _-_, _≤_, _<_}
+-- `version::highest::highest_aux` meets its contract. The invariant: going on over the rest, from here, gives the answer
+-- for the whole chain. The measure is the count that is left. A record that is its own next gives nothing higher the
+-- second time. Assumes nothing.
+use Prim.Native.Nat.{ℕ, _-_, _≤_}
 use mathlib.Core.Path.{_≡_, refl, sym, ap, _∙_}
 use mathlib.Core.List.{List}
 use lib.ListN.{length}
@@ -57,12 +58,14 @@ module _ (k : tie.After-step Inv-loop μ-loop) where
 -- the invariant, with the count that was read
 whole : (head : tie.At-loop Inv-loop μ-loop) →
     let args = head .before .before .before .args in
-    folded higherOf (head .loop .high) (collect (auxIndices (args .order) (args .s .now)) (vernauxs (args .order) (args .s .now) (head .loop .left) (head .loop .at)))
+    folded higherOf (head .loop .high) (collect (auxIndices (args .order) (args .s .now))
+    (vernauxs (args .order) (args .s .now) (head .loop .left) (head .loop .at)))
     ≡ folded higherOf (args .known) (needIndices (args .order) (args .s .now) (args .need))
 whole head =
     let args = head .before .before .before .args in
     head .loop .inv .1
-    ∙ ap (λ (n : ℕ). folded higherOf (args .known) (collect (auxIndices (args .order) (args .s .now)) (vernauxs (args .order) (args .s .now) n (args .need .aux))))
+    ∙ ap (λ (n : ℕ). folded higherOf (args .known) (collect (auxIndices (args .order) (args .s .now))
+    (vernauxs (args .order) (args .s .now) n (args .need .aux))))
     (head .before .need-count .ensures)
 
 need-count-requires : tie.Need-need-count-requires Inv-loop μ-loop
@@ -94,7 +97,8 @@ returns c =
     let refused : auxAt vernauxShape (args .order) (args .s .now) (head .loop .at) ≡ stop (c .aux-refusal .result) =
     sym (called .aux-at .ensures) ∙ ap auxOutcome told ∙ ap stop (sym (c .aux-refusal .ensures ∙ ap auxRefusal told)) in
     sym (collect-broken higherOf (auxIndices (args .order) (args .s .now)) (head .loop .high) _ _
-    (vernauxs-stop (args .order) (args .s .now) (head .loop .left) (head .loop .at) _ (called .before .loop-test .taken) refused))
+    (vernauxs-stop (args .order) (args .s .now) (head .loop .left) (head .loop .at) _
+    (called .before .loop-test .taken) refused))
     ∙ whole head
 
 need-index-requires : tie.Need-need-index-requires Inv-loop μ-loop
@@ -110,8 +114,10 @@ returns-2 c =
     let higher = c .before .before in
     let k = higher .before .before .before in
     let once = higher-once (order k) (s k) (a k) _ _ _ (higher .higher .ensures) (higher .before .need-index .ensures) in
-    sym (counted-repeat higherOf (auxIndices (order k) (s k)) (auxAt vernauxShape (order k) (s k)) (λ a. a .next) (at k) (a k) (read k)
-    (c .if1 .taken) (head k .loop .high) _ (left k) (k .before .before .before .loop-test .taken) once (higher-again (order k) (s k) (a k) _ _ once))
+    sym (counted-repeat higherOf (auxIndices (order k) (s k)) (auxAt vernauxShape (order k) (s k)) (λ a. a .next) (at k)
+    (a k) (read k)
+    (c .if1 .taken) (head k .loop .high) _ (left k) (k .before .before .before .loop-test .taken) once
+    (higher-again (order k) (s k) (a k) _ _ once))
     ∙ whole (head k)
 
 sub-left : tie.Need-sub-left Inv-loop μ-loop
@@ -124,9 +130,11 @@ loop-again : tie.Need-loop-again Inv-loop μ-loop
 loop-again c =
     let higher = c .before .before in
     let k = higher .before .before .before in
-    let once = higher-once (order k) (s k) (a k) _ _ _ (higher .higher .ensures) (higher .before .need-index .ensures) in (
+    let once =
+    higher-once (order k) (s k) (a k) _ _ _ (higher .higher .ensures) (higher .before .need-index .ensures) in (
       aux-next vernauxShape (order k) (s k) (at k) (a k) (read k) (head k .loop .inv .0),
-      sym (collect-turn higherOf (auxIndices (order k) (s k)) (head k .loop .high) _ (a k) _ _ (walk k) once) ∙ head k .loop .inv .1,
+      sym (collect-turn higherOf (auxIndices (order k) (s k)) (head k .loop .high) _ (a k) _ _ (walk k) once)
+          ∙ head k .loop .inv .1,
     )
 
 returns-3 : tie.Need-returns-3 Inv-loop μ-loop

@@ -1,5 +1,6 @@
--- `version::highest::highest_def` meets its contract. The invariant: going on over the rest, from here, gives the answer for the whole list.
--- The measure is what is left of the bytes, since each record lies past the one before. Assumes nothing.
+-- `version::highest::highest_def` meets its contract. The invariant: going on over the rest, from here, gives the answer
+-- for the whole list. The measure is what is left of the bytes, since each record lies past the one before. Assumes
+-- nothing.
 use Prim.Native.Nat.{ℕ, _-_, _≤_, _<_}
 use mathlib.Core.Path.{_≡_, refl, sym, ap, _∙_}
 use mathlib.Core.List.{List}
@@ -72,7 +73,8 @@ returns c =
     let args = head .before .before .args in
     let told = c .before .enum-told .given .1 in
     let refused : recordAt verdefShape (args .order) (args .s .now) (head .loop .at) ≡ stop (c .record-refusal .result) =
-    sym (called .record-at .ensures) ∙ ap recordOutcome told ∙ ap stop (sym (c .record-refusal .ensures ∙ ap recordRefusal told)) in
+    sym (called .record-at .ensures) ∙ ap recordOutcome told ∙ ap stop
+    (sym (c .record-refusal .ensures ∙ ap recordRefusal told)) in
     sym (collect-broken higherOf (defIndices (args .order) (args .s .now)) (head .loop .high) _ _
     (listed-stop verdefShape (args .order) (args .s .now) (head .loop .at) (called .before .loop-test .taken) _ refused))
     ∙ head .loop .inv .1
@@ -94,7 +96,8 @@ loop-again c =
     let k = c .before .before in
     let inv = head k .loop .inv in (
       record-next verdefShape (order k) (s k) (at k) (d k) (read k) (inv .0),
-      sym (collect-turn higherOf (defIndices (order k) (s k)) (head k .loop .high) _ (d k) _ _ (walk k) (c .higher-def .ensures)) ∙ inv .1,
+      sym (collect-turn higherOf (defIndices (order k) (s k)) (head k .loop .high) _ (d k) _ _ (walk k)
+          (c .higher-def .ensures)) ∙ inv .1,
     )
 
 returns-2 : tie.Need-returns-2 Inv-loop μ-loop

@@ -1,5 +1,6 @@
--- `version::highest::highest_need` meets its contract. The invariant: going on over the rest, from here, gives the answer for the whole list.
--- The measure is what is left of the bytes, since each record lies past the one before. Assumes nothing.
+-- `version::highest::highest_need` meets its contract. The invariant: going on over the rest, from here, gives the
+-- answer for the whole list. The measure is what is left of the bytes, since each record lies past the one before.
+-- Assumes nothing.
 use Prim.Native.Nat.{ℕ, _-_, _≤_, _<_}
 use mathlib.Core.Path.{_≡_, refl, sym, ap, _∙_}
 use mathlib.Core.List.{List}
@@ -72,7 +73,8 @@ returns c =
     let args = head .before .before .args in
     let told = c .before .enum-told .given .1 in
     let refused : recordAt verneedShape (args .order) (args .s .now) (head .loop .at) ≡ stop (c .record-refusal .result) =
-    sym (called .record-at .ensures) ∙ ap recordOutcome told ∙ ap stop (sym (c .record-refusal .ensures ∙ ap recordRefusal told)) in
+    sym (called .record-at .ensures) ∙ ap recordOutcome told ∙ ap stop
+    (sym (c .record-refusal .ensures ∙ ap recordRefusal told)) in
     sym (collect-broken higherOf (needIndices (args .order) (args .s .now)) (head .loop .high) _ _
     (listed-stop verneedShape (args .order) (args .s .now) (head .loop .at) (called .before .loop-test .taken) _ refused))
     ∙ head .loop .inv .1
@@ -94,7 +96,8 @@ returns-2 c =
     let k = called .before .before in
     let told = ap highOutcome (c .enum-told2 .given .1) in
     told
-    ∙ sym (collect-leave higherOf (needIndices (order k) (s k)) (head k .loop .high) _ (r k) _ _ (walk k) (sym told ∙ called .highest-aux .ensures))
+    ∙ sym (collect-leave higherOf (needIndices (order k) (s k)) (head k .loop .high) _ (r k) _ _ (walk k)
+    (sym told ∙ called .highest-aux .ensures))
     ∙ head k .loop .inv .1
 
 loop-less : tie.Need-loop-less Inv-loop μ-loop
@@ -111,7 +114,8 @@ loop-again c =
     let inv = head k .loop .inv in
     let told = ap highOutcome (c .before .inner .given .1) in (
       record-next verneedShape (order k) (s k) (at k) (r k) (read k) (inv .0),
-      sym (collect-turn higherOf (needIndices (order k) (s k)) (head k .loop .high) _ (r k) _ _ (walk k) (sym told ∙ called .highest-aux .ensures))
+      sym (collect-turn higherOf (needIndices (order k) (s k)) (head k .loop .high) _ (r k) _ _ (walk k)
+          (sym told ∙ called .highest-aux .ensures))
           ∙ inv .1,
     )
 

@@ -1,6 +1,5 @@
 -- `version::parse::attempt` meets its contract. The cases of `parsedInto`, one for each return. Assumes nothing.
 use mathlib.Core.Path.{_≡_, sym, ap, _∙_}
-use mathlib.Core.List.{List}
 use Rattle.version.specs.Outcome.Outcome.{fine, stop}
 use Rattle.version.specs.Highest.{highest, highOutcome, highRefusal}
 use Rattle.version.specs.Entries.{filledOutcome}
@@ -44,7 +43,8 @@ returns-4 c =
     let fits = called .before in
     let told = c .before .enum-told .given .1 in
     parsed-first _ _ _ _ _ (fits .before .before .if1 .left) (fits .before .if2 .left) (fits .if3 .left) _
-    (sym (called .first-pass .ensures) ∙ ap highOutcome told ∙ ap stop (sym (c .high-refusal .ensures ∙ ap highRefusal told)))
+    (sym (called .first-pass .ensures) ∙ ap highOutcome told ∙ ap stop
+    (sym (c .high-refusal .ensures ∙ ap highRefusal told)))
 
 cast-if4 : tie.Need-cast-if4
 cast-if4 c = search needs
@@ -59,7 +59,8 @@ returns-5 : tie.Need-returns-5
 returns-5 c =
     let k = c .before .before .before in
     let fits = k .before .before .before in
-    parsed-small _ _ _ _ _ (fits .before .before .if1 .left) (fits .before .if2 .left) (fits .if3 .left) _ (read k) (c .if4 .taken)
+    parsed-small _ _ _ _ _ (fits .before .before .if1 .left) (fits .before .if2 .left) (fits .if3 .left) _ (read k)
+    (c .if4 .taken)
 
 second-pass-requires : tie.Need-second-pass-requires
 second-pass-requires c κs =
@@ -83,8 +84,10 @@ returns-6 c =
     let tested = called .before .before in
     let k = tested .before .before .before in
     let fits = k .before .before .before in
-    let told = ap (λ (r : Filled). filledOutcome r (called .second-pass .last .1 .1 .1 .1 .0)) (c .enum-told2 .given .1) in
-    parsed-done _ _ _ _ _ (fits .before .before .if1 .left) (fits .before .if2 .left) (fits .if3 .left) _ (read k) (tested .if4 .left) _
+    let told =
+    ap (λ (r : Filled). filledOutcome r (called .second-pass .last .1 .1 .1 .1 .0)) (c .enum-told2 .given .1) in
+    parsed-done _ _ _ _ _ (fits .before .before .if1 .left) (fits .before .if2 .left) (fits .if3 .left) _ (read k)
+    (tested .if4 .left) _
     (sym told ∙ called .second-pass .ensures)
 
 same-length-2 : tie.Need-same-length-2
@@ -96,8 +99,10 @@ returns-7 c =
     let tested = called .before .before in
     let k = tested .before .before .before in
     let fits = k .before .before .before in
-    let told = ap (λ (r : Filled). filledOutcome r (called .second-pass .last .1 .1 .1 .1 .0)) (c .before .refusal .given .1) in
-    parsed-second _ _ _ _ _ (fits .before .before .if1 .left) (fits .before .if2 .left) (fits .if3 .left) _ (read k) (tested .if4 .left) _
+    let told =
+    ap (λ (r : Filled). filledOutcome r (called .second-pass .last .1 .1 .1 .1 .0)) (c .before .refusal .given .1) in
+    parsed-second _ _ _ _ _ (fits .before .before .if1 .left) (fits .before .if2 .left) (fits .if3 .left) _ (read k)
+    (tested .if4 .left) _
     (sym told ∙ called .second-pass .ensures)
 
 pub attempt-spec : {M : Type 1} → statement M

@@ -14,10 +14,12 @@ module _ (called : tie.After-attempt) where
   start = called .before .before .before .before .before .before .before .before .before .before
 
   whole : parsedOutcome (called .attempt .result) (called .attempt .last .1 .1 .1 .1 .0)
-      ≡ parsed (start .args .order) (start .args .verdef .now) (start .args .verneed .now) (start .args .strings .now) (length (start .args .store .now))
+      ≡ parsed (start .args .order) (start .args .verdef .now) (start .args .verneed .now) (start .args .strings .now)
+      (length (start .args .store .now))
   whole =
       called .attempt .ensures
-      ∙ ap (parsedInto (start .args .order) (start .args .verdef .now) (start .args .verneed .now) (start .args .strings .now)) (called .before .before .before .before .zero .ensures)
+      ∙ ap (parsedInto (start .args .order) (start .args .verdef .now) (start .args .verneed .now)
+      (start .args .strings .now)) (called .before .before .before .before .zero .ensures)
 
 zero-requires : tie.Need-zero-requires
 zero-requires c κs = search needs
@@ -48,7 +50,8 @@ returns c =
     let n = length (start called .args .store .now) in (
       answered n _ _ _ (whole called),
       again .zero2 .ensures
-          ∙ ap (λ (k : ℕ). replicate k 0) (called .attempt .kept .1 .1 .1 .1 .0 ∙ called .before .before .before .before .zero .kept .0)
+          ∙ ap (λ (k : ℕ). replicate k 0) (called .attempt .kept .1 .1 .1 .1 .0
+          ∙ called .before .before .before .before .zero .kept .0)
           ∙ stored-refused n _ _ _ _ (told .enum-told .given .1) (whole called),
     )
 
@@ -61,8 +64,11 @@ returns-2 : tie.Need-returns-2
 returns-2 c =
     let told = c .before in
     let called = told .before .before .before .before in
-    let n = length (start called .args .store .now) in
-    (sym (told .done .given .1) ∙ answered n _ _ _ (whole called), stored-done n _ _ _ _ (told .done .given .1) (whole called))
+    let n = length (start called .args .store .now) in (
+      sym (told .done .given .1) ∙ answered n _ _ _ (whole called),
+      stored-done n _ _ _ _ (told .done .given .1)
+          (whole called),
+    )
 
 pub parse-spec : {M : Type 1} → statement M
 parse-spec =

@@ -73,7 +73,8 @@ unfolding putEntry
 returns c =
     let args = c .before .args in
     let v = args .version in
-    put-entry-of (args .store .now) (args .index .0 * entrySize) (v .kind) (v .hash) (v .name .start) (v .name .len) (v .file .start) (v .file .len)
+    put-entry-of (args .store .now) (args .index .0 * entrySize) (v .kind) (v .hash) (v .name .start) (v .name .len)
+    (v .file .start) (v .file .len)
 
 pub put-entry-spec : {M : Type 1} → statement M
 put-entry-spec =

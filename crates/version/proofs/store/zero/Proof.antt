@@ -1,5 +1,5 @@
--- `version::store::zero` meets its contract. The invariant: i zeros, and then what was there. The measure is what is left of the store.
--- Assumes nothing.
+-- `version::store::zero` meets its contract. The invariant: i zeros, and then what was there. The measure is what is
+-- left of the store. Assumes nothing.
 use borrow.Author.Fill.{fill-more}
 use Prim.Native.Nat.{ℕ, _-_, _≤_}
 use mathlib.Core.List.{List, _++_}
@@ -11,7 +11,8 @@ use Rattle.version.proofs.store.zero.Statement.{statement}
 use Rattle.version.proofs.store.zero.Tie as tie
 
 abbrev Inv-loop : tie.InvT-loop
-Inv-loop store₀ i₀ store i = (i ≤ length store₀) × (length store ≡ length store₀) × (store ≡ replicate i 0 ++ drop i store₀)
+Inv-loop store₀ i₀ store i =
+    (i ≤ length store₀) × (length store ≡ length store₀) × (store ≡ replicate i 0 ++ drop i store₀)
 
 abbrev μ-loop : tie.MeasureT-loop
 μ-loop store₀ i₀ store i = length store₀ - i

@@ -1,7 +1,7 @@
 -- `version::table::entry` meets its contract. Each return is a case of `entryAt`. Assumes nothing.
 use borrow.Author.Tests.{lt-ltb, le-ltb}
-use mathlib.Core.Path.{_≡_, sym, ap, _∙_}
-use Rattle.version.specs.Table.{entryAt, valid}
+use mathlib.Core.Path.{sym, _∙_}
+use Rattle.version.specs.Table.{entryAt}
 use borrow.Author.Needs.{needs}
 use Rattle.version.proofs.table.entry.Statement.{statement}
 use Rattle.version.proofs.table.entry.Tie as tie
@@ -33,7 +33,12 @@ unfolding entryAt
 returns-3 c =
     let ordinary = c .before .before in
     let special = ordinary .before in
-    simp (le-ltb _ _ (special .before .if1 .left), sym (special .is-special .ensures) ∙ ordinary .if2 .left, lt-ltb _ _ (c .if3 .taken))
+    simp (
+      le-ltb _ _ (special .before .if1 .left),
+      sym (special .is-special .ensures) ∙ ordinary .if2 .left,
+      lt-ltb _ _
+          (c .if3 .taken),
+    )
 
 stored-at-requires : tie.Need-stored-at-requires
 stored-at-requires c κs = search needs

@@ -1,7 +1,7 @@
 -- `version::table::is_needed` meets its contract. Hash, length and bytes, one after the other. Assumes nothing.
 use borrow.Author.Tests.{eq-eqb, ne-eqb, leb-true}
 use Prim.Native.Nat.{_+_, _≤_}
-use mathlib.Core.Path.{_≡_, sym, ap, _∙_}
+use mathlib.Core.Path.{sym, _∙_}
 use native.Mathlib.Omega.{arith}
 use lib.ListN.{length}
 use Rattle.version.specs.Table.{nameOf}

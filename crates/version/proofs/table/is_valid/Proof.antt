@@ -23,14 +23,27 @@ unfolding valid
 returns-2 c =
     let tested = c .before .before in
     let kind = tested .before in
-    simp (ne-eqb _ _ (kind .before .before .if1 .left), eq-eqb _ _ (kind .if2 .taken), c .is-inside3 .ensures, ← tested .is-inside2 .ensures, c .before .if3 .taken)
+    simp (
+      ne-eqb _ _ (kind .before .before .if1 .left),
+      eq-eqb _ _
+          (kind .if2 .taken),
+      c .is-inside3 .ensures,
+      ← tested .is-inside2 .ensures,
+      c .before .if3 .taken,
+    )
 
 returns-3 : tie.Need-returns-3
 unfolding valid
 returns-3 c =
     let tested = c .before in
     let kind = tested .before in
-    simp (ne-eqb _ _ (kind .before .before .if1 .left), eq-eqb _ _ (kind .if2 .taken), ← tested .is-inside2 .ensures, c .if3 .left)
+    simp (
+      ne-eqb _ _ (kind .before .before .if1 .left),
+      eq-eqb _ _
+          (kind .if2 .taken),
+      ← tested .is-inside2 .ensures,
+      c .if3 .left,
+    )
 
 returns-4 : tie.Need-returns-4
 unfolding valid

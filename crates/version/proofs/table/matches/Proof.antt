@@ -1,9 +1,7 @@
 -- `version::table::matches` meets its contract. Each return is a case of `satisfied`. Assumes nothing.
-use Prim.Native.Nat.{ℕ}
 use mathlib.Core.Path.{_≡_, sym, ap, _∙_}
 use mathlib.Core.Bool.{Bool}
-use mathlib.Core.List.{List}
-use Rattle.version.specs.Table.{entryAt, satisfied, matchOf, matching}
+use Rattle.version.specs.Table.{satisfied, matchOf, matching}
 use Rattle.version.specs.declared.table.EntryAt.{EntryAt}
 use Rattle.version.specs.declared.table.Versym.{Versym}
 use Rattle.version.specs.declared.table.Need.{Need}
@@ -47,7 +45,8 @@ unfolding matching
 returns c =
     let called = c .before .before in
     let args = called .before .before .before .before .before .args in
-    sym (ap (matchOf (args .store .now) (args .strings .now) (args .need) (args .name .now)) (sym (called .version-of .ensures) ∙ c .enum-told .given .1))
+    sym (ap (matchOf (args .store .now) (args .strings .now) (args .need) (args .name .now))
+    (sym (called .version-of .ensures) ∙ c .enum-told .given .1))
 
 entry-requires : tie.Need-entry-requires
 entry-requires c κs = search needs
