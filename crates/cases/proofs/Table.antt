@@ -11,17 +11,12 @@ use Rattle.endian.specs.declared.kinds.Order.the-variants.{Little, Big}
 use Rattle.endian.specs.Refusals.{noteShort, badNoteDescriptor, badNoteAlignment, badProperty}
 use Rattle.endian.specs.Word.{wordAt}
 use Rattle.name_hash.specs.Hash.{gnuHash, sysvHash}
-<<<<<<< HEAD
-use Rattle.symbol.specs.declared.table.SymbolIndex.{SymbolIndex}
 use Rattle.note.specs.declared.properties.Property.{Property}
 use Rattle.note.specs.declared.properties.PropertyStep.the-variants.{Property as Step·Property, Refused}
 use Rattle.note.specs.declared.reader.Note.{Note}
 use Rattle.note.specs.Notes.{noteStep}
 use Rattle.note.specs.Properties.{propertyStep, start, to}
 use Rattle.note.specs.Walk.{none, onto, ended, stopped, notesWithin, notesFrom, sectionNotes}
-=======
-use Rattle.version.specs.Table.{storedAt, valid, entryAt, versymAt, matching}
->>>>>>> version
 use Rattle.version.specs.declared.table.Need.{Need}
 use Rattle.version.specs.Table.{storedAt, valid, entryAt, versymAt, matching}
 
