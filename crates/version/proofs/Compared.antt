@@ -1,6 +1,7 @@
 -- A part of the strings compared with a name, byte for byte.
 --     same-step, same-stop, same-end    of a loop that has compared i bytes
---     part-length, same-apart           the length of a part; parts of other lengths differ
+--     part-length, part-short           the length of a part that lies in the strings, and of any
+--     same-apart                        lists of other lengths differ
 -- Assumes nothing.
 use Prim.Native.Nat.{ℕ, suc, _+_, _-_, _<_, _≤_}
 use mathlib.Core.Path.{_≡_, refl, ap}
@@ -37,6 +38,9 @@ module _ (s name : List ℕ) (start i : ℕ) where
 
 pub part-length : (s : List ℕ) (start len : ℕ) → start + len ≤ length s → length (take len (drop start s)) ≡ len
 part-length s start len h = simp (length-take, length-drop) (omega arith)
+
+pub part-short : (s : List ℕ) (start len : ℕ) → length (take len (drop start s)) ≤ length s
+part-short s start len = simp (length-take, length-drop) (omega arith)
 
 pub same-apart : (s t : List ℕ) → (length s ≡ length t → ⊥) → same s t ≡ false
 same-apart s t apart = by (same s t) refl

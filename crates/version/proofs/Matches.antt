@@ -1,15 +1,19 @@
 -- What a match decides, for whoever cites it.
 --     match-need     with a need: the symbol's versym and the version behind it, whose hash and name are the need's
 --     match-of       and the other way round
+--     match-long     a need whose name is too long matches nothing
 --     match-one      two needs that one symbol matches are the same
 -- Assumes nothing.
-use Prim.Native.Nat.{ℕ}
+use Prim.Native.Nat.{ℕ, _≤_, _<_}
 use mathlib.Core.Path.{_≡_, refl, sym, ap, _∙_}
-use mathlib.Core.Bool.{true}
+use mathlib.Core.Bool.{Bool, true, false}
 use mathlib.Core.List.{List}
+use native.Mathlib.Omega.{arith}
 use lib.Dec.{eqb}
+use lib.ListN.{length}
 use borrow.Author.Tests.{eq-eqb, eqb-true}
 use Rattle.endian.specs.declared.kinds.Order.{Order}
+use Rattle.endian.specs.Refusals.{limit}
 use Rattle.strings.specs.Strings.{same}
 use Rattle.strings.proofs.Meaning.{false-true, same-refl, same-true}
 use Rattle.symbol.specs.declared.table.SymbolIndex.{SymbolIndex}
@@ -19,7 +23,8 @@ use Rattle.version.specs.declared.table.EntryAt.{EntryAt}
 use Rattle.version.specs.declared.table.Versym.{Versym}
 use Rattle.version.specs.declared.table.VersymAt.{VersymAt}
 use Rattle.version.specs.declared.table.Need.{Need}
-use Rattle.version.proofs.Entered.{and-both}
+use Rattle.version.proofs.Compared.{part-short}
+use Rattle.version.proofs.Entered.{entry-valid, and-both}
 
 -- the version of a symbol, with a hash and a name
 pub record Bound (order : Order) (versyms store strings : List ℕ) (symbol : SymbolIndex) (hash : ℕ)
@@ -39,8 +44,8 @@ module _ (order : Order) (versyms store strings : List ℕ) (symbol : SymbolInde
     match-need h = by (versymAt order versyms symbol) refl h
       where
         inner : (m : Versym) → versymAt order versyms symbol ≡ VersymAt.At m
-            → (e : EntryAt) → entryAt store strings (m .index) ≡ e → satisfied strings (m .hidden) (Need.Hash hash) name e
-            ≡ true
+            → (e : EntryAt) → entryAt store strings (m .index) ≡ e
+            → satisfied strings (m .hidden) (Need.Hash hash) name e ≡ true
             → Bound order versyms store strings symbol hash name
         inner m v (EntryAt.Refused r) e h = false-true h
         inner m v EntryAt.Special e h = false-true h
@@ -67,6 +72,18 @@ module _ (order : Order) (versyms store strings : List ℕ) (symbol : SymbolInde
         ap (matchOf store strings (Need.Hash hash) name) (b .symbols)
         ∙ ap (satisfied strings (b .versym .hidden) (Need.Hash hash) name) (b .entry)
         ∙ rw (eq-eqb (b .version .hash) hash (b .hashed), b .named) (same-refl name)
+
+    pub match-long : limit < length name → matching order versyms store strings symbol (Need.Hash hash) name ≡ false
+    match-long long = by (matching order versyms store strings symbol (Need.Hash hash) name) refl
+      where
+        by : (t : Bool) → matching order versyms store strings symbol (Need.Hash hash) name ≡ t → t ≡ false
+        by false e = refl
+        by true e =
+            let b = match-need e in
+            let fits : length strings ≤ limit = entry-valid store strings (b .versym .index) (b .version) (b .entry) .0 in
+            let part = part-short strings (b .version .name .start) (b .version .name .len) in
+            let same-length : length (nameOf strings (b .version)) ≡ length name = ap length (b .named) in
+            absurd (omega arith)
 
   pub match-one : (hash hash′ : ℕ) (name name′ : List ℕ)
       → matching order versyms store strings symbol (Need.Hash hash) name ≡ true
