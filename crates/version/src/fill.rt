@@ -257,7 +257,8 @@ pub(crate) fn second_pass(
     requires { ⌜ All (DefRoom order (now verdef) (length (now store))) (verdefs order (now verdef) 0)
         × All (NeedRoom order (now verneed) (length (now store))) (verneeds order (now verneed) 0) ⌝ }
     ensures { λ r. ⌜ filledOutcome r (now (store .exit))
-        ≡ folded putEntry (now (store .entry)) (entries order (now (verdef .entry)) (now (verneed .entry)) (now (strings .entry))) ⌝ }
+        ≡ folded putEntry (now (store .entry))
+        (entries order (now (verdef .entry)) (now (verneed .entry)) (now (strings .entry))) ⌝ }
 {
     let done = fill_defs(order, verdef, strings, store);
     let Filled::Done = done else {

@@ -80,7 +80,8 @@ fn higher_def(order: Order, s: &[u8], def: Record, high: VersionIndex) -> Versio
 // The highest index of the definitions.
 fn highest_def(order: Order, s: &[u8]) -> High
     ensures { λ r. ⌜ highOutcome r
-        ≡ folded higherOf (record { 0 = 0 }) (collect (defIndices order (now (s .entry))) (verdefs order (now (s .entry)) 0)) ⌝ }
+        ≡ folded higherOf (record { 0 = 0 })
+        (collect (defIndices order (now (s .entry))) (verdefs order (now (s .entry)) 0)) ⌝ }
 {
     let mut high = VersionIndex(0);
     let mut at: usize = 0;
