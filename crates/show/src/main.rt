@@ -1,5 +1,5 @@
-// Prints, of an embedded sample, the hashes of some names, the symbols of a small table and the
-// notes of a section.
+// Prints, of an embedded sample, the hashes of some names, the symbols of a small table, the notes of
+// a section, and which needs the versions of two symbols match.
 use endian::kinds::Class;
 use endian::kinds::Order;
 use libc::STDOUT_FILENO;
@@ -13,6 +13,9 @@ use symbol::entry::Symbol;
 use symbol::table::SymbolAt;
 use symbol::table::SymbolCount;
 use symbol::table::SymbolIndex;
+use version::parse::Parsed;
+use version::table::Need;
+use version::table::VersymAt;
 
 fn put(text: &[u8]) {
     io::write_all(STDOUT_FILENO, text);
@@ -209,10 +212,68 @@ fn notes() {
     }
 }
 
+fn put_truth(truth: bool) {
+    if truth {
+        put(b"yes          ");
+    } else {
+        put(b"no           ");
+    }
+}
+
+fn put_versym(found: VersymAt) {
+    match found {
+        VersymAt::At(versym) => {
+            put_decimal(versym.index.0 as u64, 5);
+            put(b"  ");
+            if versym.hidden {
+                put(b"hidden   ");
+            } else {
+                put(b"default  ");
+            }
+        }
+        VersymAt::Refused(refusal) => put_refusal(refusal.0),
+    }
+}
+
+// A symbol's version, and whether it matches no need, and the need of each of two names.
+fn version_row(versyms: &[u8], store: &[u32], strings: &[u8], number: u32) {
+    let order = Order::Little;
+    let symbol = SymbolIndex(number);
+    put_decimal(number as u64, 6);
+    put_versym(version::table::version_of(order, versyms, symbol));
+    let any = version::table::matches(order, versyms, store, strings, symbol, Need::Any, b"");
+    put_truth(any);
+    let one = Need::Hash(0x14a2440);
+    put_truth(version::table::matches(order, versyms, store, strings, symbol, one, b"LOT_1.0"));
+    let two = Need::Hash(0x14a2540);
+    put_truth(version::table::matches(order, versyms, store, strings, symbol, two, b"LOT_2.0"));
+    put(b"\n");
+}
+
+// The versions of the sample, little: LOT_1.0 at index 2, LOT_2.0 at index 3. Symbol 1 has the first,
+// hidden, and symbol 2 the second.
+fn versions() {
+    let strings = b"\0LOT_1.0\0LOT_2.0\0";
+    let verdef = b"\x01\0\0\0\x02\0\x01\0\x40\x24\x4a\x01\x14\0\0\0\x1c\0\0\0\x01\0\0\0\0\0\0\0\
+        \x01\0\0\0\x03\0\x01\0\x40\x25\x4a\x01\x14\0\0\0\0\0\0\0\x09\0\0\0\0\0\0\0";
+    let versyms = b"\0\0\x02\x80\x03\0";
+    let mut store = [0u32; 24];
+    put(b"symbol index  version  no need      LOT_1.0      LOT_2.0\n");
+    match version::parse::parse(Order::Little, verdef, b"", strings, &mut store) {
+        Parsed::Highest(_) => {
+            version_row(versyms, &store, strings, 1);
+            version_row(versyms, &store, strings, 2);
+        }
+        Parsed::Refused(refusal) => refused_row(refusal.0),
+    }
+}
+
 fn main() {
     hashes();
     put(b"\n");
     symbols();
     put(b"\n");
     notes();
+    put(b"\n");
+    versions();
 }
