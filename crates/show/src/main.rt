@@ -212,18 +212,18 @@ fn notes() {
     }
 }
 
-fn put_truth(truth: bool) {
+fn put_truth(truth: bool, width: usize) {
     if truth {
-        put(b"yes          ");
+        put_left(b"yes", width);
     } else {
-        put(b"no           ");
+        put_left(b"no", width);
     }
 }
 
 fn put_versym(found: VersymAt) {
     match found {
         VersymAt::At(versym) => {
-            put_decimal(versym.index.0 as u64, 5);
+            put_decimal(versym.index.0 as u64, 6);
             put(b"  ");
             if versym.hidden {
                 put(b"hidden   ");
@@ -242,11 +242,13 @@ fn version_row(versyms: &[u8], store: &[u32], strings: &[u8], number: u32) {
     put_decimal(number as u64, 6);
     put_versym(version::table::version_of(order, versyms, symbol));
     let any = version::table::matches(order, versyms, store, strings, symbol, Need::Any, b"");
-    put_truth(any);
+    put_truth(any, 9);
     let one = Need::Hash(0x14a2440);
-    put_truth(version::table::matches(order, versyms, store, strings, symbol, one, b"LOT_1.0"));
+    let old = version::table::matches(order, versyms, store, strings, symbol, one, b"LOT_1.0");
+    put_truth(old, 9);
     let two = Need::Hash(0x14a2540);
-    put_truth(version::table::matches(order, versyms, store, strings, symbol, two, b"LOT_2.0"));
+    let new = version::table::matches(order, versyms, store, strings, symbol, two, b"LOT_2.0");
+    put_truth(new, 0);
     put(b"\n");
 }
 
@@ -258,7 +260,7 @@ fn versions() {
         \x01\0\0\0\x03\0\x01\0\x40\x25\x4a\x01\x14\0\0\0\0\0\0\0\x09\0\0\0\0\0\0\0";
     let versyms = b"\0\0\x02\x80\x03\0";
     let mut store = [0u32; 24];
-    put(b"symbol index  version  no need      LOT_1.0      LOT_2.0\n");
+    put(b"symbol index  version  no need  LOT_1.0  LOT_2.0\n");
     match version::parse::parse(Order::Little, verdef, b"", strings, &mut store) {
         Parsed::Highest(_) => {
             version_row(versyms, &store, strings, 1);
