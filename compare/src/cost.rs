@@ -15,6 +15,11 @@ pub fn print() {
     for records in [1024, 2048, 4096] {
         row("one chain that all share", &shared(records));
     }
+    let mut strings = vec![b'a'; 1 << 20];
+    strings.push(0);
+    for records in [256, 512, 1024] {
+        row_over("names of 1 MiB", &separate(records), &strings);
+    }
 }
 
 fn word(bytes: &mut Vec<u8>, value: u32, width: usize) {
@@ -59,32 +64,44 @@ fn shared(records: usize) -> Vec<u8> {
     bytes
 }
 
-fn ours(verneed: &[u8]) -> Duration {
+/// So many needs, each with an aux record of its own.
+fn separate(records: usize) -> Vec<u8> {
+    let mut bytes = Vec::new();
+    for record in 0..records {
+        let next = if record + 1 < records { 32 } else { 0 };
+        need(&mut bytes, 1, 16, next);
+        aux(&mut bytes, 0);
+    }
+    bytes
+}
+
+fn ours(verneed: &[u8], strings: &[u8]) -> Duration {
     let mut store = vec![0; LARGEST_STORE];
     let start = Instant::now();
-    let answer = fetulombo::versions_parse(Order::Little, &[], verneed, b"\0", &mut store);
+    let answer = fetulombo::versions_parse(Order::Little, &[], verneed, strings, &mut store);
     let time = start.elapsed();
     assert_eq!(answer.map(|index| index.0), Ok(2));
     time
 }
 
-fn original(verneed: &[u8]) -> Duration {
+fn original(verneed: &[u8], strings: &[u8]) -> Duration {
     let start = Instant::now();
-    let answer = oracle::versions_parse(true, false, &[], None, Some(verneed), b"\0");
+    let answer = oracle::versions_parse(true, false, &[], None, Some(verneed), strings);
     let time = start.elapsed();
     assert_eq!(answer.map(|versions| versions.entries()), Ok(3));
     time
 }
 
 fn row(input: &str, verneed: &[u8]) {
-    let (ours, original) = (ours(verneed), original(verneed));
+    row_over(input, verneed, b"\0");
+}
+
+fn row_over(input: &str, verneed: &[u8], strings: &[u8]) {
+    let (ours, original) = (ours(verneed, strings), original(verneed, strings));
     println!("| {input} | {} | {ours:?} | {original:?} |", verneed.len());
 }
 
 fn row_alone(input: &str, verneed: &[u8]) {
-    println!(
-        "| {input} | {} | {:?} | not run |",
-        verneed.len(),
-        ours(verneed)
-    );
+    let ours = ours(verneed, b"\0");
+    println!("| {input} | {} | {ours:?} | not run |", verneed.len());
 }
