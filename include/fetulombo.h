@@ -4,8 +4,9 @@
  * lent memory, but for fetulombo_versions_parse, which fills the store. Each is proved, on the abstract machine of its language, to answer what its
  * definition says; this header and the C calls are tested.
  *
- * A slice is passed as a pointer and a length. The pointer is never null; that of an empty slice may
- * be any pointer that is not null. The bytes must stay as they are during the call.
+ * A slice is passed as a pointer and a length, in elements. The pointer is never null and is aligned to
+ * its elements; that of an empty slice may be any such pointer. What is lent must stay as it is during
+ * the call.
  *
  * A class is FETULOMBO_ELF32 or FETULOMBO_ELF64, an order FETULOMBO_LITTLE or FETULOMBO_BIG: 0 is
  * the first, anything else the second.
