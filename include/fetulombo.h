@@ -1,8 +1,9 @@
 /* Fetulombo: which symbol of an ELF library a name and a version bind to.
  *
  * Link libfetulombo.a (x86-64 Linux). The functions keep nothing, allocate nothing and write to no
- * lent memory, but for fetulombo_versions_parse, which fills the store. Each is proved, on the abstract machine of its language, to answer what its
- * definition says; this header and the C calls are tested.
+ * lent memory, but for fetulombo_versions_parse, which fills the store. Each is proved, on the
+ * abstract machine of its language, to answer what its definition says; this header and the C calls
+ * are tested.
  *
  * A slice is passed as a pointer and a length, in elements. The pointer is never null and is aligned to
  * its elements; that of an empty slice may be any such pointer. What is lent must stay as it is during
@@ -12,7 +13,7 @@
  * the first, anything else the second.
  *
  * A refusal is 0 where there is none, and then the other fields hold the answer; otherwise it is one
- * of the numbers below, and the other fields are 0. A part longer than FETULOMBO_LIMIT is refused
+ * of the numbers below, and the other fields are 0 but for a reader's next place. A part longer than FETULOMBO_LIMIT is refused
  * (FETULOMBO_TOO_LONG) before anything else. */
 #ifndef FETULOMBO_H
 #define FETULOMBO_H
