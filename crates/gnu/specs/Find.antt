@@ -1,0 +1,20 @@
+-- The GNU lookup of the bytes (01, "Lookups"): part too long (1), the table's places (26 to 28), then the lookup.
+-- Assumes nothing.
+use Prim.Native.Nat.{ℕ}
+use mathlib.Core.Bool.{cond}
+use Rattle.endian.specs.declared.kinds.Class.{Class}
+use Rattle.endian.specs.declared.kinds.Order.{Order}
+use Rattle.endian.specs.Refusals.{anyLong, tooLong}
+use Rattle.lookup.specs.declared.Answer.{Answer}
+use Rattle.lookup.specs.declared.Answer.the-variants.{Refused}
+use Rattle.lookup.specs.Wanted.{Parts, Asked, allParts, wanted, unlessFault}
+use Rattle.gnu.specs.Table.{Table, lookup}
+use Rattle.gnu.specs.Layout.{fault, tableOf}
+
+abbrev pub gnuTable : Class → Order → Parts → Table
+gnuTable class order p = tableOf class order (p .table) (p .symbols) (p .strings)
+
+unfoldable pub gnuFind : Class → Order → Parts → Asked → (hash : ℕ) → Answer
+gnuFind class order p asked hash =
+    cond (anyLong (allParts p asked)) (Refused tooLong)
+    (unlessFault (fault class order (p .table)) (lookup (gnuTable class order p) hash (wanted class order p asked)))

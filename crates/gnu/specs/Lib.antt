@@ -1,0 +1,4 @@
+pub mod Length
+pub mod Find
+pub mod Layout
+pub mod Table

@@ -1,0 +1,3 @@
+// The GNU hash table: a lookup with its probes, and the length of the symbol table.
+mod filter;
+pub mod length;

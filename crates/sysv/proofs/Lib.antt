@@ -1,0 +1,1 @@
+-- No shared laws yet.

@@ -1,0 +1,3 @@
+pub mod Find
+pub mod Layout
+pub mod Table

@@ -1,0 +1,2 @@
+// The SysV hash table: a lookup with its probes, and the length of the symbol table.
+pub mod length;
