@@ -1,1 +1,2 @@
--- No shared laws yet.
+-- `Headers`: what a table's header answers.
+pub mod Headers

@@ -1,2 +1,3 @@
 // The SysV hash table: a lookup with its probes, and the length of the symbol table.
+pub mod header;
 pub mod length;
