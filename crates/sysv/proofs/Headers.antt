@@ -2,25 +2,28 @@
 --     countFrom, length-from     the length
 --     findFrom, find-from        the lookup
 --     header-read                a header that was read: the table is whole, and the header is its own
+--     lookup-none, lookup-walk   the lookup by the numbers of the header: without buckets, or a walk from the hash's bucket
 -- Assumes nothing.
-use Prim.Native.Nat.{ℕ}
+use Prim.Native.Nat.{ℕ, _+_, _*_, _%_}
 use mathlib.Core.Path.{_≡_, refl}
 use mathlib.Core.Bool.{Bool, true, false, cond}
 use mathlib.Core.List.{List, [], _∷_}
 use mathlib.Core.Option.{Option, some, none}
 use lib.Dec.{ltb}
 use lib.ListN.{length}
+use borrow.Author.Tests.{eq-eqb, ne-eqb}
 use Rattle.endian.specs.declared.kinds.Class.{Class}
 use Rattle.endian.specs.declared.kinds.Order.{Order}
 use Rattle.endian.specs.declared.refusals.Refusal.{Refusal}
 use Rattle.endian.specs.Refusals.{limit, anyLong, tooLong}
+use Rattle.endian.specs.Word.{wordAt}
 use Rattle.lookup.specs.declared.Answer.{Answer}
-use Rattle.lookup.specs.Wanted.{Parts, Asked, wanted, unlessFault}
+use Rattle.lookup.specs.Wanted.{Parts, Asked, wanted, walk, unlessFault}
 use Rattle.sysv.specs.declared.header.Header.{Header}
 use Rattle.sysv.specs.declared.header.HeaderAt.{HeaderAt}
 use Rattle.sysv.specs.declared.length.ChainCount.{ChainCount}
-use Rattle.sysv.specs.Layout.{fault, headerOf, headerAt, headerUnless, chainCountOf}
-use Rattle.sysv.specs.Table.{lookup}
+use Rattle.sysv.specs.Layout.{fault, headerOf, headerAt, headerUnless, chainCountOf, tableOf}
+use Rattle.sysv.specs.Table.{visited, lookup}
 use Rattle.sysv.specs.Find.{sysvTable, sysvFind, sysvLength, lengthAnswer}
 
 abbrev pub countFrom : HeaderAt → ChainCount
@@ -75,3 +78,19 @@ module _ (class : Class) (order : Order) (p : Parts) (asked : Asked) (hash : ℕ
       by false true o answer = refl
       by false false none answer = refl
       by false false (some r) answer = refl
+
+module _ (class : Class) (order : Order) (table symbols strings : List ℕ) (hash : ℕ) (match : ℕ → Bool) (header : Header)
+    (own : header ≡ headerOf order table) where
+  pub lookup-none : header .«bucket_count» ≡ 0
+      → lookup (tableOf order table class symbols strings) hash match ≡ Answer.Missing 0
+  unfolding lookup
+  lookup-none empty = let e = rw own at empty in rw (eq-eqb _ _ e)
+
+  pub lookup-walk : ¬ (header .«bucket_count» ≡ 0)
+      → lookup (tableOf order table class symbols strings) hash match
+      ≡ walk match
+      (visited (header .«chain_count»)
+      (λ i. wordAt order 4 table (8 + header .«bucket_count» * 4 + i * 4)) (header .«chain_count»)
+      (wordAt order 4 table (8 + hash % header .«bucket_count» * 4)))
+  unfolding lookup
+  lookup-walk some-bucket = let e = rw own at some-bucket in rw (own, ne-eqb _ _ e)
