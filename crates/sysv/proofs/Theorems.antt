@@ -1,0 +1,62 @@
+-- What a SysV lookup finds, in any table, accepted or not (demand 3, last sentence).
+--     find-wanted    it is wanted
+--     find-bound     it has the name, and its version matches the need
+--     find-one       two lookups over the same parts that each state a version and get one symbol ask for the same
+-- Assumes nothing.
+use Prim.Native.Nat.{ℕ, _%_}
+use mathlib.Core.Path.{_≡_, refl, sym, _∙_}
+use mathlib.Core.Bool.{Bool, true, false, cond}
+use mathlib.Core.List.{List}
+use mathlib.Core.Option.{Option, some, none}
+use lib.Dec.{eqb}
+use Rattle.endian.specs.declared.kinds.Class.{Class}
+use Rattle.endian.specs.declared.kinds.Order.{Order}
+use Rattle.endian.specs.declared.refusals.Refusal.{Refusal}
+use Rattle.endian.specs.Refusals.{anyLong, tooLong}
+use Rattle.version.specs.declared.table.Need.{Need}
+use Rattle.version.specs.Table.{matching}
+use Rattle.lookup.specs.declared.Answer.{Answer}
+use Rattle.lookup.specs.declared.Answer.the-variants.{Found, Missing, Refused}
+use Rattle.lookup.specs.Wanted.{Parts, Asked, allParts, nameOf, symbolIndex, wanted, walk, unlessFault}
+use Rattle.lookup.proofs.Distinct.{Same, wanted-named, wanted-fits, wanted-one, walk-wanted}
+use Rattle.sysv.specs.Layout.{fault}
+use Rattle.sysv.specs.Table.{Table, numbers, lookup}
+use Rattle.sysv.specs.Find.{sysvTable, sysvFind}
+
+lookup-wanted : (t : Table) (hash : ℕ) (match : ℕ → Bool) (i probes : ℕ) → lookup t hash match ≡ Found (symbolIndex i) probes
+    → match i ≡ true
+unfolding lookup
+lookup-wanted t hash match i probes h = by (eqb (t .bucketCount) 0) h
+  where
+    by : (b : Bool) → cond b (Missing 0) (walk match (numbers t (hash % t .bucketCount))) ≡ Found (symbolIndex i) probes
+        → match i ≡ true
+    by true h = cc
+    by false h = walk-wanted match (numbers t (hash % t .bucketCount)) i probes h
+
+module _ (class : Class) (order : Order) (p : Parts) where
+  module _ (asked : Asked) (hash i probes : ℕ) (found : sysvFind class order p asked hash ≡ Found (symbolIndex i) probes) where
+    pub find-wanted : wanted class order p asked i ≡ true
+    unfolding sysvFind
+    find-wanted = by (anyLong (allParts p asked)) (fault order (p .table)) found
+      where
+        by : (long : Bool) (o : Option Refusal)
+            → cond long (Refused tooLong)
+            (unlessFault o (lookup (sysvTable class order p) hash (wanted class order p asked)))
+            ≡ Found (symbolIndex i) probes
+            → wanted class order p asked i ≡ true
+        by true o h = cc
+        by false (some r) h = cc
+        by false none h = lookup-wanted (sysvTable class order p) hash (wanted class order p asked) i probes h
+
+    pub find-bound : (nameOf class order (p .symbols) (p .strings) i ≡ some (asked .name))
+        × (matching order (p .versyms) (p .store) (p .versionStrings) (symbolIndex i) (asked .need) (asked .needName) ≡ true)
+    find-bound = (wanted-named class order p asked i find-wanted, wanted-fits class order p asked i find-wanted)
+
+  pub find-one : (asked asked′ : Asked) (hash hash′ version version′ i probes probes′ : ℕ)
+      → asked .need ≡ Need.Hash version → asked′ .need ≡ Need.Hash version′
+      → sysvFind class order p asked hash ≡ Found (symbolIndex i) probes
+      → sysvFind class order p asked′ hash′ ≡ Found (symbolIndex i) probes′
+      → Same asked asked′ version version′
+  find-one asked asked′ hash hash′ version version′ i probes probes′ need need′ found found′ =
+      wanted-one class order p asked asked′ version version′ i need need′
+      (find-wanted asked hash i probes found) (find-wanted asked′ hash′ i probes′ found′)
