@@ -27,6 +27,7 @@ pub const NOTE: u32 = 7;
 pub const STRTAB: u32 = 3;
 pub const SYMTAB: u32 = 2;
 pub const DYNSYM: u32 = 11;
+pub const HASH: u32 = 5;
 pub const GNU_HASH: u32 = 0x6fff_fff6;
 pub const VERDEF: u32 = 0x6fff_fffd;
 pub const VERNEED: u32 = 0x6fff_fffe;

@@ -12,11 +12,14 @@ mod cost;
 mod hashes;
 mod inputs;
 mod libraries;
+mod lookups;
 mod notes;
+mod plain;
 mod record;
 mod report;
 mod strings;
 mod symbols;
+mod tables;
 mod versions;
 mod words;
 
@@ -67,6 +70,7 @@ fn main() -> ExitCode {
     hashes::compare(&mut run);
     notes::compare(&mut run);
     versions::compare(&mut run);
+    lookups::compare(&mut run);
     run.report.print();
     if run.report.differences() == 0 {
         ExitCode::SUCCESS

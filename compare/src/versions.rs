@@ -319,7 +319,7 @@ fn limits(run: &mut Run) {
     }
 }
 
-fn put(order: Order, bytes: &mut Vec<u8>, value: u32, width: usize) {
+pub fn put(order: Order, bytes: &mut Vec<u8>, value: u32, width: usize) {
     match order {
         Order::Little => bytes.extend(&value.to_le_bytes()[..width]),
         Order::Big => bytes.extend(&value.to_be_bytes()[4 - width..]),
@@ -503,7 +503,7 @@ fn big_section(
 }
 
 /// A real table of little records as one of big ones.
-fn big_parts(parts: &Parts) -> Parts {
+pub fn big_parts(parts: &Parts) -> Parts {
     Parts {
         versyms: parts
             .versyms

@@ -5,6 +5,7 @@
 //! found in a lent slice is answered as a part of that slice.
 
 mod hash;
+mod lookup;
 mod note;
 mod raw;
 mod refusal;
@@ -14,6 +15,7 @@ mod version;
 mod word;
 
 pub use hash::{gnu_hash, sysv_hash};
+pub use lookup::{Found, GnuTable, Symbols, SysvTable, Wanted};
 pub use note::{
     Note, Notes, Properties, Property, gnu_properties, notes, property_number, trimmed,
 };

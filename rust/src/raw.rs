@@ -81,6 +81,21 @@ pub struct Versym {
     pub hidden: u64,
 }
 
+#[repr(C)]
+pub struct Lookup {
+    pub refusal: u32,
+    pub found: u32,
+    pub symbol: u64,
+    pub probes: u64,
+}
+
+#[repr(C)]
+pub struct Length {
+    pub refusal: u64,
+    pub known: u64,
+    pub symbols: u64,
+}
+
 // More than 16 bytes each: handed back through memory.
 const _: () = assert!(size_of::<Number>() == 24);
 const _: () = assert!(size_of::<Place>() == 24);
@@ -90,6 +105,8 @@ const _: () = assert!(size_of::<Note>() == 56);
 const _: () = assert!(size_of::<Property>() == 40);
 const _: () = assert!(size_of::<Version>() == 32);
 const _: () = assert!(size_of::<Versym>() == 24);
+const _: () = assert!(size_of::<Lookup>() == 24);
+const _: () = assert!(size_of::<Length>() == 24);
 
 impl Number {
     pub fn get(self) -> Result<u64, Refusal> {
@@ -212,4 +229,54 @@ unsafe extern "C" {
         name: *const u8,
         name_length: usize,
     ) -> Number;
+
+    pub fn fetulombo_gnu_find(
+        class: u8,
+        order: u8,
+        table: *const u8,
+        table_length: usize,
+        symbols: *const u8,
+        symbols_length: usize,
+        strings: *const u8,
+        strings_length: usize,
+        versyms: *const u8,
+        versyms_length: usize,
+        store: *const u32,
+        store_length: usize,
+        version_strings: *const u8,
+        version_strings_length: usize,
+        name: *const u8,
+        name_length: usize,
+        hash: u32,
+        needed: u8,
+        need_hash: u32,
+        need_name: *const u8,
+        need_name_length: usize,
+    ) -> Lookup;
+    pub fn fetulombo_sysv_find(
+        class: u8,
+        order: u8,
+        table: *const u8,
+        table_length: usize,
+        symbols: *const u8,
+        symbols_length: usize,
+        strings: *const u8,
+        strings_length: usize,
+        versyms: *const u8,
+        versyms_length: usize,
+        store: *const u32,
+        store_length: usize,
+        version_strings: *const u8,
+        version_strings_length: usize,
+        name: *const u8,
+        name_length: usize,
+        hash: u32,
+        needed: u8,
+        need_hash: u32,
+        need_name: *const u8,
+        need_name_length: usize,
+    ) -> Lookup;
+    pub fn fetulombo_gnu_base(class: u8, order: u8, table: *const u8, length: usize) -> Number;
+    pub fn fetulombo_gnu_length(class: u8, order: u8, table: *const u8, length: usize) -> Length;
+    pub fn fetulombo_sysv_length(order: u8, table: *const u8, length: usize) -> Number;
 }

@@ -44,6 +44,16 @@ pub struct Needed<'name> {
     pub hash: u32,
 }
 
+impl<'name> Needed<'name> {
+    /// As the archive takes it: whether there is a need, its hash and its name.
+    pub(crate) fn parts(need: Option<Self>) -> (u8, u32, &'name [u8]) {
+        match need {
+            None => (0, 0, &[]),
+            Some(need) => (1, need.hash, need.name),
+        }
+    }
+}
+
 /// Parses the definitions and the needs into the store, and answers the highest index. An absent
 /// section is an empty one. Every number of the store is settled: after a refusal all are 0.
 pub fn versions_parse(
@@ -138,10 +148,7 @@ impl Versions<'_> {
     /// Whether the version of a symbol is the one that is needed; without a need, any that is not
     /// hidden.
     pub fn matches(&self, symbol: SymbolIndex, need: Option<Needed<'_>>) -> Result<bool, Refusal> {
-        let (needed, hash, name) = match need {
-            None => (0, 0, &[][..]),
-            Some(need) => (1, need.hash, need.name),
-        };
+        let (needed, hash, name) = Needed::parts(need);
         // Safety: the slices are lent for the call.
         let answer = unsafe {
             fetulombo_version_matches(

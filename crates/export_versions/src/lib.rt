@@ -128,7 +128,8 @@ pub extern "C" fn fetulombo_version_of(order: u8, versyms: &[u8], symbol: u32) -
     }
 }
 
-pub(crate) fn need_of(needed: u8, hash: u32) -> Need
+// Which version is needed, as C passes it: any where needed is 0.
+pub fn need_of(needed: u8, hash: u32) -> Need
     ensures { λ r. ⌜ r ≡ needOf needed hash ⌝ }
 {
     match needed {
