@@ -12,7 +12,7 @@ use crate::tables::{
 };
 use crate::versions::{self, put};
 use fetulombo::{
-    Class, GnuTable, LARGEST_STORE, LIMIT, Needed, Order, Symbols as OurSymbols, SysvTable,
+    Class, ENTRY, GnuTable, LARGEST_STORE, LIMIT, Needed, Order, Symbols as OurSymbols, SysvTable,
     Versions, Wanted,
 };
 
@@ -106,15 +106,22 @@ pub fn versions_of(made: &Symbols) -> (Option<oracle::Versions<'_>>, Vec<u32>) {
         &made.versions.strings,
     )
     .ok();
-    let mut store = vec![0; LARGEST_STORE];
-    let highest = fetulombo::versions_parse(
-        made.order,
-        &made.versions.verdef,
-        &made.versions.verneed,
-        &made.versions.strings,
-        &mut store,
-    );
-    store.truncate(highest.map_or(0, |index| (index.0 as usize + 1) * fetulombo::ENTRY));
+    let parsed = |room| {
+        let mut store = vec![0; room];
+        let highest = fetulombo::versions_parse(
+            made.order,
+            &made.versions.verdef,
+            &made.versions.verneed,
+            &made.versions.strings,
+            &mut store,
+        );
+        store.truncate(highest.map_or(0, |index| (index.0 as usize + 1) * ENTRY));
+        (highest, store)
+    };
+    let (highest, mut store) = parsed(8 * ENTRY);
+    if highest == Err(fetulombo::Refusal::StoreTooSmall) {
+        store = parsed(LARGEST_STORE).1;
+    }
     (theirs, store)
 }
 

@@ -249,7 +249,10 @@ pub fn damaged_words(random: &mut Random, order: Order, table: &[u8]) -> Vec<u8>
     }
     match random.below(8) {
         0 => damaged.truncate(random.below(table.len() + 1)),
-        1 => damaged.extend(random.bytes(random.below(9), 2)),
+        1 => {
+            let more = random.below(9);
+            damaged.extend(random.bytes(more, 2));
+        }
         _ => (),
     }
     damaged
