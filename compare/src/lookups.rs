@@ -119,7 +119,7 @@ pub fn versions_of(made: &Symbols) -> (Option<oracle::Versions<'_>>, Vec<u32>) {
         (highest, store)
     };
     let (highest, mut store) = parsed(8 * ENTRY);
-    if highest == Err(fetulombo::Refusal::StoreTooSmall) {
+    if highest == Err(fetulombo::Refusal::STORE_TOO_SMALL) {
         store = parsed(LARGEST_STORE).1;
     }
     (theirs, store)
