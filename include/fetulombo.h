@@ -152,6 +152,22 @@ typedef struct {
     uint64_t hidden;
 } fetulombo_versym;
 
+/* What a lookup gives: found is 1 with a symbol's number, and 0 without. probes is how many symbols were
+ * tested in either case. */
+typedef struct {
+    uint32_t refusal;
+    uint32_t found;
+    uint64_t symbol;
+    uint64_t probes;
+} fetulombo_lookup;
+
+/* The length of the symbol table; known is 0 where a table says nothing of it. */
+typedef struct {
+    uint64_t refusal;
+    uint64_t known;
+    uint64_t symbols;
+} fetulombo_length;
+
 /* The word of 2, 4 or 8 bytes at a place. A byte past the end counts as 0. */
 fetulombo_number fetulombo_u16_at(uint8_t order, const uint8_t *bytes, size_t bytes_length, size_t at);
 fetulombo_number fetulombo_u32_at(uint8_t order, const uint8_t *bytes, size_t bytes_length, size_t at);
@@ -241,6 +257,42 @@ fetulombo_number fetulombo_version_matches(uint8_t order, const uint8_t *versyms
                                            const uint32_t *store, size_t store_length, const uint8_t *strings,
                                            size_t strings_length, uint32_t symbol, uint8_t needed,
                                            uint32_t hash, const uint8_t *name, size_t name_length);
+
+/* The symbol of a name and a version in a GNU hash table, by the name's GNU hash; the bytes may be longer
+ * than the table. The version table is versyms, a filled store and the versions' strings; with none, all
+ * three are empty. needed, need_hash and need_name are as in fetulombo_version_matches. A hash that is not
+ * the name's may miss a symbol; it never finds one of another name or version. Refused in this order:
+ * FETULOMBO_TOO_LONG; FETULOMBO_BAD_GNU_HEADER, FETULOMBO_BAD_GNU_BLOOM, FETULOMBO_BAD_GNU_BUCKETS; and
+ * FETULOMBO_BAD_BLOOM_SHIFT, where the second bit of the bloom filter is reached. */
+fetulombo_lookup fetulombo_gnu_find(uint8_t table_class, uint8_t order,
+                                    const uint8_t *table, size_t table_length, const uint8_t *symbols,
+                                    size_t symbols_length, const uint8_t *strings, size_t strings_length,
+                                    const uint8_t *versyms, size_t versyms_length, const uint32_t *store,
+                                    size_t store_length, const uint8_t *version_strings,
+                                    size_t version_strings_length, const uint8_t *name, size_t name_length,
+                                    uint32_t hash, uint8_t needed, uint32_t need_hash,
+                                    const uint8_t *need_name, size_t need_name_length);
+
+/* The same in a SysV hash table, by the name's SysV hash. Refused in this order: FETULOMBO_TOO_LONG;
+ * FETULOMBO_BAD_SYSV_HEADER, FETULOMBO_BAD_SYSV_BUCKETS, FETULOMBO_BAD_SYSV_CHAINS. */
+fetulombo_lookup fetulombo_sysv_find(uint8_t table_class, uint8_t order,
+                                     const uint8_t *table, size_t table_length, const uint8_t *symbols,
+                                     size_t symbols_length, const uint8_t *strings, size_t strings_length,
+                                     const uint8_t *versyms, size_t versyms_length, const uint32_t *store,
+                                     size_t store_length, const uint8_t *version_strings,
+                                     size_t version_strings_length, const uint8_t *name, size_t name_length,
+                                     uint32_t hash, uint8_t needed, uint32_t need_hash,
+                                     const uint8_t *need_name, size_t need_name_length);
+
+/* The number of the first hashed symbol of a GNU table, and the length of the symbol table as it follows
+ * from the GNU table alone. Refused as fetulombo_gnu_find, but for the bloom shift. */
+fetulombo_number fetulombo_gnu_base(uint8_t table_class, uint8_t order, const uint8_t *table,
+                                    size_t table_length);
+fetulombo_length fetulombo_gnu_length(uint8_t table_class, uint8_t order, const uint8_t *table,
+                                      size_t table_length);
+
+/* The length of the symbol table as a SysV table says it. Refused as fetulombo_sysv_find. */
+fetulombo_number fetulombo_sysv_length(uint8_t order, const uint8_t *table, size_t table_length);
 
 #ifdef __cplusplus
 }

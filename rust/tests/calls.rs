@@ -229,6 +229,108 @@ fn version_table() {
     assert_eq!(store, [0; 23]);
 }
 
+fn bytes_of(order: Order, words: &[u32]) -> Vec<u8> {
+    let bytes = |word: &u32| match order {
+        Order::Little => word.to_le_bytes(),
+        Order::Big => word.to_be_bytes(),
+    };
+    words.iter().flat_map(bytes).collect()
+}
+
+#[test]
+fn gnu_lookups() {
+    for order in [Order::Little, Order::Big] {
+        // Document 01's table, and the same with a bloom word of ones.
+        let table = |bloom, shift| bytes_of(order, &[1, 1, 1, shift, bloom, 1, 177_671]);
+        let symbols = bytes_of(order, &[0, 0, 0, 0, 1, 0, 0, 0]);
+        let symbols = Symbols {
+            symbols: &symbols,
+            strings: b"\0a\0",
+        };
+        let find = |table: &[u8], name: &[u8]| {
+            let wanted = Wanted::gnu(name, None)?;
+            let table = GnuTable::parse(Class::Elf32, order, table)?;
+            table.find(symbols, Versions::NONE, wanted)
+        };
+        let found = |symbol, probes| Ok(Found { symbol, probes });
+        let one = table(65_600, 5);
+        assert_eq!(find(&one, b"a"), found(Some(SymbolIndex(1)), 1));
+        assert_eq!(find(&one, b"b"), found(None, 0));
+        let ones = table(u32::MAX, 5);
+        assert_eq!(find(&ones, b"b"), found(None, 1));
+        let shifted = table(u32::MAX, 32);
+        assert_eq!(find(&shifted, b"b"), Err(Refusal::BAD_BLOOM_SHIFT));
+        assert_eq!(find(&one[..15], b"a"), Err(Refusal::BAD_GNU_HEADER));
+        assert_eq!(find(&one[..19], b"a"), Err(Refusal::BAD_GNU_BLOOM));
+        assert_eq!(find(&one[..23], b"a"), Err(Refusal::BAD_GNU_BUCKETS));
+        let parsed = GnuTable::parse(Class::Elf32, order, &one).unwrap();
+        assert_eq!(parsed.symbol_base(), SymbolIndex(1));
+        assert_eq!(parsed.length(), Ok(Some(2)));
+        let empty = GnuTable::parse(Class::Elf32, order, &one[..24]).unwrap();
+        assert_eq!(empty.length(), Ok(None));
+    }
+}
+
+#[test]
+fn sysv_lookups() {
+    for order in [Order::Little, Order::Big] {
+        // One bucket with the chain 2, 1; symbol 2 is `b`.
+        let table = bytes_of(order, &[1, 3, 2, 0, 0, 1]);
+        let symbols = bytes_of(order, &[0, 0, 0, 0, 1, 0, 0, 0, 3, 0, 0, 0]);
+        let symbols = Symbols {
+            symbols: &symbols,
+            strings: b"\0a\0b\0",
+        };
+        let find = |table: &[u8], name: &[u8]| {
+            let wanted = Wanted::sysv(name, None)?;
+            let table = SysvTable::parse(Class::Elf32, order, table)?;
+            table.find(symbols, Versions::NONE, wanted)
+        };
+        let found = |symbol, probes| Ok(Found { symbol, probes });
+        assert_eq!(find(&table, b"a"), found(Some(SymbolIndex(1)), 2));
+        assert_eq!(find(&table, b"b"), found(Some(SymbolIndex(2)), 1));
+        assert_eq!(find(&table, b"c"), found(None, 2));
+        assert_eq!(find(&table[..7], b"a"), Err(Refusal::BAD_SYSV_HEADER));
+        assert_eq!(find(&table[..11], b"a"), Err(Refusal::BAD_SYSV_BUCKETS));
+        assert_eq!(find(&table[..23], b"a"), Err(Refusal::BAD_SYSV_CHAINS));
+        let parsed = SysvTable::parse(Class::Elf32, order, &table).unwrap();
+        assert_eq!(parsed.length(), 3);
+    }
+}
+
+/// The accident's library: `import_lot` as LOT_1.0, hidden, and as LOT_2.0.
+#[test]
+fn a_lookup_binds_the_version_that_it_states() {
+    let order = Order::Little;
+    let hash = gnu_hash(b"import_lot").unwrap();
+    let table = bytes_of(order, &[1, 1, 1, 5, u32::MAX, 1, hash & !1, hash | 1]);
+    let symbols = bytes_of(order, &[0, 0, 0, 0, 1, 0, 0, 0, 1, 0, 0, 0]);
+    let symbols = Symbols {
+        symbols: &symbols,
+        strings: b"\0import_lot\0",
+    };
+    let mut store = [0; 24];
+    store[12..16].copy_from_slice(&[1, 7, 0, 7]);
+    store[18..22].copy_from_slice(&[1, 8, 7, 7]);
+    let versions = Versions {
+        order,
+        versyms: &[0, 0, 2, 0x80, 3, 0],
+        store: &store,
+        strings: b"LOT_1.0LOT_2.0",
+    };
+    let table = GnuTable::parse(Class::Elf32, order, &table).unwrap();
+    let find = |need: Option<(&[u8], u32)>| {
+        let need = need.map(|(name, hash)| Needed { name, hash });
+        let wanted = Wanted::gnu(b"import_lot", need).unwrap();
+        table.find(symbols, versions, wanted).unwrap().symbol
+    };
+    assert_eq!(find(Some((b"LOT_1.0", 7))), Some(SymbolIndex(1)));
+    assert_eq!(find(Some((b"LOT_2.0", 8))), Some(SymbolIndex(2)));
+    assert_eq!(find(Some((b"LOT_2.0", 7))), None);
+    assert_eq!(find(Some((b"LOT_3.0", 8))), None);
+    assert_eq!(find(None), Some(SymbolIndex(2)));
+}
+
 #[test]
 fn too_long_comes_first() {
     let part = vec![0; LIMIT + 1];
@@ -279,6 +381,20 @@ fn too_long_comes_first() {
         hash: 0,
     });
     assert_eq!(Versions::NONE.matches(SymbolIndex(0), need).map(drop), long);
+    assert_eq!(GnuTable::parse(class, order, &part).map(drop), long);
+    assert_eq!(SysvTable::parse(class, order, &part).map(drop), long);
+    let table = GnuTable::parse(class, order, &[0; 16]).unwrap();
+    let wanted = Wanted {
+        name: b"",
+        hash: 0,
+        need,
+    };
+    let symbols = Symbols {
+        symbols: b"",
+        strings: b"",
+    };
+    let found = table.find(symbols, Versions::NONE, wanted);
+    assert_eq!(found.map(drop), long);
     assert_eq!(string_at(&part[1..], 0), Ok(&b""[..]));
     assert_eq!(gnu_hash(&part[1..]).map(drop), Ok(()));
 }

@@ -190,6 +190,57 @@ static void versions(void) {
          FETULOMBO_STORE_TOO_SMALL);
 }
 
+/* Document 01's table: symbols null and `a`, base 1, one bucket holding 1, shift 5, value 177671. */
+static uint32_t gnu_words[] = {1, 1, 1, 5, 65600, 1, 177671};
+
+static fetulombo_lookup gnu_find(const char *name, uint32_t hash, uint8_t needed) {
+    static const uint8_t symbols[32] = {[16] = 1};
+    static const uint8_t strings[] = {0, 'a', 0};
+    static const uint32_t store[1];
+    return fetulombo_gnu_find(FETULOMBO_ELF32, FETULOMBO_LITTLE, (const uint8_t *)gnu_words, sizeof gnu_words, symbols,
+                              sizeof symbols, strings, sizeof strings, strings, 0, store, 0, strings, 0,
+                              (const uint8_t *)name, strlen(name), hash, needed, 0x61, (const uint8_t *)"a", 1);
+}
+
+static void lookups(void) {
+    fetulombo_lookup found = gnu_find("a", 177670, 0);
+    same("a refusal", found.refusal, 0);
+    same("a found", found.found, 1);
+    same("a symbol", found.symbol, 1);
+    same("a probes", found.probes, 1);
+    same("a with a need", gnu_find("a", 177670, 1).found, 0);
+    same("a with a need, probes", gnu_find("a", 177670, 1).probes, 1);
+    same("b", gnu_find("b", 177671, 0).found, 0);
+    same("b probes", gnu_find("b", 177671, 0).probes, 0);
+    gnu_words[4] = 0xffffffff;
+    same("b, bloom all ones", gnu_find("b", 177671, 0).found, 0);
+    same("b, bloom all ones, probes", gnu_find("b", 177671, 0).probes, 1);
+    gnu_words[3] = 32;
+    same("shift 32", gnu_find("a", 177670, 0).refusal, FETULOMBO_BAD_BLOOM_SHIFT);
+    const uint8_t *table = (const uint8_t *)gnu_words;
+    same("base", fetulombo_gnu_base(0, 0, table, sizeof gnu_words).value, 1);
+    same("GNU length known", fetulombo_gnu_length(0, 0, table, sizeof gnu_words).known, 1);
+    same("GNU length", fetulombo_gnu_length(0, 0, table, sizeof gnu_words).symbols, 2);
+    same("GNU length, no value", fetulombo_gnu_length(0, 0, table, 24).known, 0);
+    same("GNU buckets", fetulombo_gnu_length(0, 0, table, 23).refusal, FETULOMBO_BAD_GNU_BUCKETS);
+    same("GNU bloom", fetulombo_gnu_base(1, 0, table, 23).refusal, FETULOMBO_BAD_GNU_BLOOM);
+    same("GNU header", fetulombo_gnu_base(0, 0, table, 15).refusal, FETULOMBO_BAD_GNU_HEADER);
+    const uint8_t sysv[] = {0, 0, 0, 1, 0, 0, 0, 2, 0, 0, 0, 1, 0, 0, 0, 9, 0, 0, 0, 0};
+    const uint8_t symbols[48] = {[27] = 1};
+    const uint8_t strings[] = {0, 'a', 0};
+    const uint32_t store[1] = {0};
+    found = fetulombo_sysv_find(1, 1, sysv, sizeof sysv, symbols, 48, strings, 3, strings, 0, store, 0, strings, 0,
+                                strings + 1, 1, 97, 0, 0, strings, 0);
+    same("SysV refusal", found.refusal, 0);
+    same("SysV found", found.found, 1);
+    same("SysV symbol", found.symbol, 1);
+    same("SysV probes", found.probes, 1);
+    same("SysV length", fetulombo_sysv_length(1, sysv, sizeof sysv).value, 2);
+    same("SysV chains", fetulombo_sysv_length(1, sysv, 19).refusal, FETULOMBO_BAD_SYSV_CHAINS);
+    same("SysV buckets", fetulombo_sysv_length(1, sysv, 11).refusal, FETULOMBO_BAD_SYSV_BUCKETS);
+    same("SysV header", fetulombo_sysv_length(1, sysv, 7).refusal, FETULOMBO_BAD_SYSV_HEADER);
+}
+
 static void limits(void) {
     const size_t limit = FETULOMBO_LIMIT;
     uint8_t *part = calloc(limit + 1, 1);
@@ -234,6 +285,22 @@ static void limits(void) {
     same("versyms past it", fetulombo_version_of(0, part, limit + 1, 0).refusal, FETULOMBO_TOO_LONG);
     same("match past it", fetulombo_version_matches(0, none, 0, store, 12, none, 0, 0, 1, 0, part, limit + 1).refusal,
          FETULOMBO_TOO_LONG);
+    for (int which = 0; which < 7; which++) {
+        const size_t n = limit + 1;
+#define LENT(k) which == (k) ? part : none, which == (k) ? n : 0
+        same("GNU lookup past it",
+             fetulombo_gnu_find(0, 0, LENT(0), LENT(1), LENT(2), LENT(3), store, 12, LENT(4), LENT(5), 0, 0, 0, LENT(6))
+                 .refusal,
+             FETULOMBO_TOO_LONG);
+        same("SysV lookup past it",
+             fetulombo_sysv_find(0, 0, LENT(0), LENT(1), LENT(2), LENT(3), store, 12, LENT(4), LENT(5), 0, 0, 0, LENT(6))
+                 .refusal,
+             FETULOMBO_TOO_LONG);
+#undef LENT
+    }
+    same("GNU length past it", fetulombo_gnu_length(0, 0, part, limit + 1).refusal, FETULOMBO_TOO_LONG);
+    same("GNU base past it", fetulombo_gnu_base(0, 0, part, limit + 1).refusal, FETULOMBO_TOO_LONG);
+    same("SysV length past it", fetulombo_sysv_length(0, part, limit + 1).refusal, FETULOMBO_TOO_LONG);
     free(part);
 }
 
@@ -244,6 +311,7 @@ int main(void) {
     symbols();
     notes();
     versions();
+    lookups();
     limits();
     if (failures != 0) {
         return 1;
