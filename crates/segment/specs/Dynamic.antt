@@ -31,8 +31,8 @@ abbrev pub segmentDynamic : Class → List ℕ → Segment → SegmentDynamic
 segmentDynamic class file segment =
     cond (ltb limit (length file)) (Refused tooLong)
     (cond (eqb (segment .kind) 2)
-      (cond (isInFile file segment) (At (segment .offset) (segment .filesz) (segment .filesz / dynamicSize class))
-      (Refused badDynamicPlace))
+    (cond (isInFile file segment) (At (segment .offset) (segment .filesz) (segment .filesz / dynamicSize class))
+    (Refused badDynamicPlace))
     NotThisKind)
 
 pub data DynamicField : Type 0 where

@@ -27,6 +27,6 @@ abbrev pub segmentInterpreter : List ℕ → Segment → SegmentInterpreter
 segmentInterpreter file segment =
     cond (ltb limit (length file)) (Refused tooLong)
     (cond (eqb (segment .kind) 3)
-      (cond (isInFile file segment) (upToZero (segment .offset) (bytesOf file segment))
-      (Refused badInterpreterPlace))
+    (cond (isInFile file segment) (upToZero (segment .offset) (bytesOf file segment))
+    (Refused badInterpreterPlace))
     NotThisKind)

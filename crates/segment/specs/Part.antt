@@ -34,5 +34,5 @@ abbrev pub segmentDataRange : List ℕ → Segment → (address size : ℕ) → 
 segmentDataRange file segment address size =
     cond (ltb limit (length file)) (Range·Refused tooLong)
     (cond (isInFile file segment)
-      (cond (isHere segment address size) (Range·At (segment .offset + (address - segment .vaddr)) size) NotHere)
+    (cond (isHere segment address size) (Range·At (segment .offset + (address - segment .vaddr)) size) NotHere)
     (Range·Refused badSegmentData))

@@ -26,6 +26,6 @@ abbrev pub segmentNotes : Order → List ℕ → Segment → SegmentNotes
 segmentNotes order file segment =
     cond (ltb limit (length file)) (Refused tooLong)
     (cond (eqb (segment .kind) 4)
-      (cond (isInFile file segment) (readBy segment (readerFor order (segment .align)))
-      (Refused badNotePlace))
+    (cond (isInFile file segment) (readBy segment (readerFor order (segment .align)))
+    (Refused badNotePlace))
     NotThisKind)

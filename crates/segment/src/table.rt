@@ -47,7 +47,7 @@ pub fn segment_count(class: Class, table: &[u8]) -> SegmentCount
 
 // The fields of the 32-bit record at a place. A byte past the end counts as 0.
 fn segment_32(order: Order, table: &[u8], base: usize) -> Segment
-    requires { ⌜ base < 4294967296 ⌝ }
+    requires { ⌜ base < 1099511627776 ⌝ }
     ensures { λ r. ⌜ r ≡ segmentOf Elf32 order (now (table .entry)) base ⌝ }
 {
     Segment {
@@ -64,7 +64,7 @@ fn segment_32(order: Order, table: &[u8], base: usize) -> Segment
 
 // The same of the 64-bit record.
 fn segment_64(order: Order, table: &[u8], base: usize) -> Segment
-    requires { ⌜ base < 4294967296 ⌝ }
+    requires { ⌜ base < 1099511627776 ⌝ }
     ensures { λ r. ⌜ r ≡ segmentOf Elf64 order (now (table .entry)) base ⌝ }
 {
     Segment {
@@ -76,6 +76,16 @@ fn segment_64(order: Order, table: &[u8], base: usize) -> Segment
         filesz: u64_at(order, table, base + 32),
         memsz: u64_at(order, table, base + 40),
         align: u64_at(order, table, base + 48),
+    }
+}
+
+fn segment_of(class: Class, order: Order, table: &[u8], base: usize) -> Segment
+    requires { ⌜ base < 1099511627776 ⌝ }
+    ensures { λ r. ⌜ r ≡ segmentOf class order (now (table .entry)) base ⌝ }
+{
+    match class {
+        Class::Elf32 => segment_32(order, table, base),
+        Class::Elf64 => segment_64(order, table, base),
     }
 }
 
@@ -92,8 +102,5 @@ pub fn segment_at(class: Class, order: Order, table: &[u8], number: u32) -> Segm
     if table.len() < (at + 1) * record {
         return SegmentAt::Refused(NO_SEGMENT);
     }
-    match class {
-        Class::Elf32 => SegmentAt::At(segment_32(order, table, at * 32)),
-        Class::Elf64 => SegmentAt::At(segment_64(order, table, at * 56)),
-    }
+    SegmentAt::At(segment_of(class, order, table, at * record))
 }

@@ -1,10 +1,8 @@
+-- `segment::dynamic::dynamic_of` meets its contract. Each field is the word of its place in the layout. Assumes nothing.
+use native.Mathlib.Nat.{add-zero}
 use borrow.Author.Needs.{needs}
 use Rattle.segment.proofs.dynamic.dynamic_of.Statement.{statement}
 use Rattle.segment.proofs.dynamic.dynamic_of.Tie as tie
-use Rattle.segment.proofs.dynamic.dynamic_of.Reads as reads
-use Rattle.segment.proofs.dynamic.dynamic_of.Lts as lts
-use Rattle.endian.proofs.words.u32_at.Reads as u32-at-reads
-use Rattle.endian.proofs.words.u64_at.Reads as u64-at-reads
 
 enum-told : tie.Need-enum-told
 enum-told c = search needs
@@ -37,10 +35,10 @@ u64-at-requires-2 : tie.Need-u64-at-requires-2
 u64-at-requires-2 c κs = search needs
 
 returns : tie.Need-returns
-returns c = ?
+returns c = rw (c .before .before .enum-told .given .1, add-zero, c .u32-at2 .ensures, c .before .u32-at .ensures)
 
 returns-2 : tie.Need-returns-2
-returns-2 c = ?
+returns-2 c = rw (c .before .before .enum-told2 .given .1, add-zero, c .u64-at2 .ensures, c .before .u64-at .ensures)
 
 pub dynamic-of-spec : {M : Type 1} → statement M
 dynamic-of-spec =

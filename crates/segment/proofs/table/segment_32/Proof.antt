@@ -1,9 +1,8 @@
+-- `segment::table::segment_32` meets its contract. Each field is the word of its place in the layout. Assumes nothing.
+use native.Mathlib.Nat.{add-zero}
 use borrow.Author.Needs.{needs}
 use Rattle.segment.proofs.table.segment_32.Statement.{statement}
 use Rattle.segment.proofs.table.segment_32.Tie as tie
-use Rattle.segment.proofs.table.segment_32.Reads as reads
-use Rattle.segment.proofs.table.segment_32.Lts as lts
-use Rattle.endian.proofs.words.u32_at.Reads as u32-at-reads
 
 u32-at-requires : tie.Need-u32-at-requires
 u32-at-requires c κs = search needs
@@ -69,7 +68,18 @@ cast-t24 : tie.Need-cast-t24
 cast-t24 c = search needs
 
 returns : tie.Need-returns
-returns c = ?
+returns c =
+    rw (
+      add-zero,
+      c .u32-at8 .ensures,
+      c .before .u32-at7 .ensures,
+      c .before .before .u32-at6 .ensures,
+      c .before .before .before .u32-at5 .ensures,
+      c .before .before .before .before .u32-at4 .ensures,
+      c .before .before .before .before .before .u32-at3 .ensures,
+      c .before .before .before .before .before .before .u32-at2 .ensures,
+      c .before .before .before .before .before .before .before .u32-at .ensures,
+    )
 
 pub segment-32-spec : {M : Type 1} → statement M
 segment-32-spec =

@@ -1,10 +1,8 @@
+-- `segment::table::segment_64` meets its contract. Each field is the word of its place in the layout. Assumes nothing.
+use native.Mathlib.Nat.{add-zero}
 use borrow.Author.Needs.{needs}
 use Rattle.segment.proofs.table.segment_64.Statement.{statement}
 use Rattle.segment.proofs.table.segment_64.Tie as tie
-use Rattle.segment.proofs.table.segment_64.Reads as reads
-use Rattle.segment.proofs.table.segment_64.Lts as lts
-use Rattle.endian.proofs.words.u32_at.Reads as u32-at-reads
-use Rattle.endian.proofs.words.u64_at.Reads as u64-at-reads
 
 u32-at-requires : tie.Need-u32-at-requires
 u32-at-requires c κs = search needs
@@ -52,7 +50,18 @@ u64-at-requires-6 : tie.Need-u64-at-requires-6
 u64-at-requires-6 c κs = search needs
 
 returns : tie.Need-returns
-returns c = ?
+returns c =
+    rw (
+      add-zero,
+      c .u64-at6 .ensures,
+      c .before .u64-at5 .ensures,
+      c .before .before .u64-at4 .ensures,
+      c .before .before .before .u64-at3 .ensures,
+      c .before .before .before .before .u64-at2 .ensures,
+      c .before .before .before .before .before .u64-at .ensures,
+      c .before .before .before .before .before .before .u32-at2 .ensures,
+      c .before .before .before .before .before .before .before .u32-at .ensures,
+    )
 
 pub segment-64-spec : {M : Type 1} → statement M
 segment-64-spec =

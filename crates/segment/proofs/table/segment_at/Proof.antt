@@ -1,14 +1,15 @@
+-- `segment::table::segment_at` meets its contract. Each answer is the one that its tests pick. Assumes nothing.
+use native.Mathlib.Omega.{arith}
+use borrow.Author.Tests.{lt-ltb, le-ltb, le-leb, lt-leb}
+use Rattle.segment.specs.Table.{segmentAt}
+use Rattle.segment.proofs.Records.{segment-end-fits}
 use borrow.Author.Needs.{needs}
 use Rattle.segment.proofs.table.segment_at.Statement.{statement}
 use Rattle.segment.proofs.table.segment_at.Tie as tie
-use Rattle.segment.proofs.table.segment_at.Reads as reads
-use Rattle.segment.proofs.table.segment_at.Lts as lts
-use Rattle.segment.proofs.table.segment_32.Reads as segment-32-reads
-use Rattle.segment.proofs.table.segment_64.Reads as segment-64-reads
-use Rattle.segment.proofs.table.segment_size.Reads as segment-size-reads
 
 returns : tie.Need-returns
-returns c = ?
+unfolding segmentAt
+returns c = simp (lt-ltb _ _ (c .if1 .taken))
 
 segment-size-requires : tie.Need-segment-size-requires
 segment-size-requires c κs = search needs
@@ -17,34 +18,27 @@ add-if2 : tie.Need-add-if2
 add-if2 c = search needs
 
 mul-if2 : tie.Need-mul-if2
-mul-if2 c = ?
+mul-if2 c =
+    let args = c .before .before .before .args in
+    rw (c .segment-size .ensures) (record { fits = segment-end-fits (args .class) (args .number) (omega arith) })
 
 returns-2 : tie.Need-returns-2
-returns-2 c = ?
+unfolding segmentAt
+returns-2 c =
+    let out = rw (c .before .segment-size .ensures) at (c .if2 .taken) in
+    simp (le-ltb _ _ (c .before .before .if1 .left), lt-leb _ _ out)
 
-enum-told : tie.Need-enum-told
-enum-told c = search needs
+mul-segment-of : tie.Need-mul-segment-of
+mul-segment-of c = search needs
 
-mul-segment-32 : tie.Need-mul-segment-32
-mul-segment-32 c = search needs
-
-segment-32-requires : tie.Need-segment-32-requires
-segment-32-requires c κs = ?
-
-enum-told-2 : tie.Need-enum-told-2
-enum-told-2 c = search needs
-
-mul-segment-64 : tie.Need-mul-segment-64
-mul-segment-64 c = search needs
-
-segment-64-requires : tie.Need-segment-64-requires
-segment-64-requires c κs = ?
+segment-of-requires : tie.Need-segment-of-requires
+segment-of-requires c κs = search needs
 
 returns-3 : tie.Need-returns-3
-returns-3 c = ?
-
-returns-4 : tie.Need-returns-4
-returns-4 c = ?
+unfolding segmentAt
+returns-3 c =
+    let whole = rw (c .before .before .segment-size .ensures) at (c .before .if2 .left) in
+    simp (le-ltb _ _ (c .before .before .before .if1 .left), le-leb _ _ whole) (cc)
 
 pub segment-at-spec : {M : Type 1} → statement M
 segment-at-spec =
@@ -55,11 +49,6 @@ segment-at-spec =
     add-if2
     mul-if2
     returns-2
-    enum-told
-    mul-segment-32
-    segment-32-requires
-    enum-told-2
-    mul-segment-64
-    segment-64-requires
-    returns-3
-    returns-4)
+    mul-segment-of
+    segment-of-requires
+    returns-3)
