@@ -7,7 +7,10 @@
 
 ORACLE ?= ../shared/oracle
 CARGO := cargo
+# The crates with the exported functions, one for each module.
+EXPORTS := words strings symbols hashes notes versions
 ARCHIVE := target/staticlib/libfetulombo.a
+OBJECTS := target/archive
 COMPARE := compare/target/release/compare
 
 .PHONY: run test archive calls comparison record gate clean
@@ -21,8 +24,15 @@ run:
 test: calls comparison
 	$(MAKE) --no-print-directory gate
 
+# Each export crate is one object, in which the exported functions alone are global.
 archive:
-	rt staticlib fetulombo
+	rm -rf $(OBJECTS) $(ARCHIVE)
+	mkdir -p $(OBJECTS)
+	set -e; for e in $(EXPORTS); do \
+	  rt staticlib export_$$e; \
+	  (cd $(OBJECTS) && ar x ../staticlib/libexport_$$e.a); \
+	done
+	ar rcs $(ARCHIVE) $(EXPORTS:%=$(OBJECTS)/export_%.o)
 
 calls: archive
 	mkdir -p target/c

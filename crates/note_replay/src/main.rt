@@ -1,9 +1,10 @@
 // Replays the original's recorded walks over notes and properties: records of 128 bytes on the
 // standard input (docs/COMPARISON.md). Prints how many there were and how many walks differ.
-use endian::kinds::Class;
 use endian::kinds::Order;
 use endian::words::u8_at;
 use endian::words::u32_at;
+use export::kinds::class_of;
+use export::kinds::order_of;
 use libc::STDIN_FILENO;
 use libc::STDOUT_FILENO;
 use note::properties::Property;
@@ -36,20 +37,6 @@ const REFUSED: u8 = 0;
 const FOUND: u8 = 1;
 
 const END: u8 = 2;
-
-fn class_of(number: u8) -> Class {
-    match number {
-        0 => Class::Elf32,
-        _ => Class::Elf64,
-    }
-}
-
-fn order_of(number: u8) -> Order {
-    match number {
-        0 => Order::Little,
-        _ => Order::Big,
-    }
-}
 
 // Whether the step that is recorded at a place is this refusal.
 fn same_refusal(record: &[u8], at: usize, number: u32) -> bool

@@ -1,11 +1,12 @@
 // Replays the original's recorded answers about symbols: records of 128 bytes on the standard input
 // (docs/COMPARISON.md). Prints how many there were and how many answers differ.
-use endian::kinds::Class;
 use endian::kinds::Order;
 use endian::words::u8_at;
 use endian::words::u16_at;
 use endian::words::u32_at;
 use endian::words::u64_at;
+use export::kinds::class_of;
+use export::kinds::order_of;
 use libc::STDIN_FILENO;
 use libc::STDOUT_FILENO;
 use strings::StringAt;
@@ -16,20 +17,6 @@ const RECORD: usize = 128;
 
 // The most records that are read.
 const MOST: u64 = 1000000;
-
-fn class_of(number: u8) -> Class {
-    match number {
-        0 => Class::Elf32,
-        _ => Class::Elf64,
-    }
-}
-
-fn order_of(number: u8) -> Order {
-    match number {
-        0 => Order::Little,
-        _ => Order::Big,
-    }
-}
 
 // Whether symbol_at gives the refusal or the fields that are recorded from byte 100 on.
 fn same_symbol(found: SymbolAt, record: &[u8]) -> bool {

@@ -4,6 +4,7 @@ use endian::kinds::Order;
 use endian::words::u8_at;
 use endian::words::u16_at;
 use endian::words::u32_at;
+use export::kinds::order_of;
 use libc::STDIN_FILENO;
 use libc::STDOUT_FILENO;
 use symbol::table::SymbolIndex;
@@ -39,13 +40,6 @@ const ANSWER: usize = 149;
 const ENTRIES: usize = 152;
 
 const MATCH: usize = 272;
-
-fn order_of(number: u8) -> Order {
-    match number {
-        0 => Order::Little,
-        _ => Order::Big,
-    }
-}
 
 // A part of the record, or none of it where the record is too short.
 fn part(record: &[u8], start: usize, length: u8) -> &[u8] {

@@ -1,0 +1,2 @@
+-- `Truth`: a truth that is cast to a number.
+pub mod Truth

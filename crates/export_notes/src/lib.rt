@@ -1,0 +1,189 @@
+// Notes and GNU properties, for C. The readers are passed as their numbers.
+use endian::refusals::LIMIT;
+use endian::refusals::TOO_LONG;
+use export::answers::NumberAnswer;
+use export::answers::no_number;
+use export::answers::number_answer;
+use export::kinds::class_of;
+use export::kinds::order_of;
+use note::name::trimmed;
+use note::properties::GnuProperties;
+use note::properties::PropertyNumber;
+use note::properties::PropertyReader;
+use note::properties::PropertyStep;
+use note::properties::gnu_properties;
+use note::properties::property_number;
+use note::reader::NoteReader;
+use note::reader::NoteStep;
+use note::reader::ReaderFor;
+use note::reader::reader_for;
+ghost use mathlib.Core.Path.{_≡_};
+ghost use Rattle.note.specs.Properties.{gnuProperties, propertyStep, propertyNumber};
+ghost use Rattle.export.specs.Answers.{classOf, orderOf};
+ghost use Rattle.export_notes.specs.Answers.{noNote, noteAnswer, noteStepAnswer, trimmedAnswer, kindAnswer, propertyReader, noProperty, propertyAnswer, propertyNumberAnswer};
+
+// A step of a note reader: found is 1 with a note, 0 at the end or where it is refused. next is the
+// place of the reader after it.
+#[repr(C)]
+pub struct NoteAnswer {
+    pub refusal: u32,
+    pub found: u32,
+    pub kind: u64,
+    pub name: u64,
+    pub name_length: u64,
+    pub descriptor: u64,
+    pub descriptor_length: u64,
+    pub next: u64,
+}
+
+// The same of a property reader.
+#[repr(C)]
+pub struct PropertyAnswer {
+    pub refusal: u32,
+    pub found: u32,
+    pub kind: u64,
+    pub start: u64,
+    pub length: u64,
+    pub next: u64,
+}
+
+pub(crate) fn no_note(refusal: u32, next: usize) -> NoteAnswer
+    ensures { λ r. ⌜ r ≡ noNote refusal next ⌝ }
+{
+    NoteAnswer {
+        refusal,
+        found: 0,
+        kind: 0,
+        name: 0,
+        name_length: 0,
+        descriptor: 0,
+        descriptor_length: 0,
+        next: next as u64,
+    }
+}
+
+pub(crate) fn note_answer(step: NoteStep) -> NoteAnswer
+    ensures { λ r. ⌜ r ≡ noteAnswer step ⌝ }
+{
+    match step {
+        NoteStep::Note(note, next) => NoteAnswer {
+            refusal: 0,
+            found: 1,
+            kind: note.kind as u64,
+            name: note.name as u64,
+            name_length: note.namesz as u64,
+            descriptor: note.descriptor as u64,
+            descriptor_length: note.descsz as u64,
+            next: next.at as u64,
+        },
+        NoteStep::End(next) => no_note(0, next.at),
+        NoteStep::Refused(refusal, next) => no_note(refusal.0, next.at),
+    }
+}
+
+// The note at a place. Refused in this order: bytes that are too long; an alignment; as
+// `NoteReader::step`.
+#[no_mangle]
+pub extern "C" fn fetulombo_note_step(order: u8, align: u64, bytes: &[u8], at: usize) -> NoteAnswer
+    ensures { λ r. ⌜ r ≡ noteStepAnswer (orderOf order) align (now (bytes .entry)) at ⌝ }
+{
+    if LIMIT < bytes.len() {
+        return no_note(TOO_LONG.0, bytes.len());
+    }
+    match reader_for(order_of(order), align) {
+        ReaderFor::Reader(reader) => {
+            let order = reader.order;
+            let align = reader.align;
+            note_answer(NoteReader { order, align, at }.step(bytes))
+        }
+        ReaderFor::Refused(refusal) => no_note(refusal.0, bytes.len()),
+    }
+}
+
+// The length of a name without its trailing zeros. Refused: a name that is too long.
+#[no_mangle]
+pub extern "C" fn fetulombo_trimmed(name: &[u8]) -> NumberAnswer
+    ensures { λ r. ⌜ r ≡ trimmedAnswer (now (name .entry)) ⌝ }
+{
+    if LIMIT < name.len() {
+        return no_number(TOO_LONG);
+    }
+    number_answer(trimmed(name).len() as u64)
+}
+
+// Whether a note of this type, name and descriptor holds GNU properties.
+#[no_mangle]
+pub extern "C" fn fetulombo_gnu_properties(
+    class: u8,
+    order: u8,
+    kind: u32,
+    name: &[u8],
+    descriptor: &[u8],
+) -> NumberAnswer
+    ensures { λ r. ⌜ r ≡ kindAnswer (gnuProperties (classOf class) (orderOf order) kind (now (name .entry)) (now (descriptor .entry))) ⌝ }
+{
+    match gnu_properties(class_of(class), order_of(order), kind, name, descriptor) {
+        GnuProperties::Reader(_) => number_answer(1),
+        GnuProperties::NotThisKind => number_answer(0),
+        GnuProperties::Refused(refusal) => no_number(refusal),
+    }
+}
+
+pub(crate) fn no_property(refusal: u32, next: usize) -> PropertyAnswer
+    ensures { λ r. ⌜ r ≡ noProperty refusal next ⌝ }
+{
+    PropertyAnswer {
+        refusal,
+        found: 0,
+        kind: 0,
+        start: 0,
+        length: 0,
+        next: next as u64,
+    }
+}
+
+pub(crate) fn property_answer(step: PropertyStep) -> PropertyAnswer
+    ensures { λ r. ⌜ r ≡ propertyAnswer step ⌝ }
+{
+    match step {
+        PropertyStep::Property(property, next) => PropertyAnswer {
+            refusal: 0,
+            found: 1,
+            kind: property.kind as u64,
+            start: property.start as u64,
+            length: property.size as u64,
+            next: next.at as u64,
+        },
+        PropertyStep::End(next) => no_property(0, next.at),
+        PropertyStep::Refused(refusal, next) => no_property(refusal.0, next.at),
+    }
+}
+
+// The property at a place of a descriptor. Refused as `PropertyReader::step`.
+#[no_mangle]
+pub extern "C" fn fetulombo_property_step(
+    class: u8,
+    order: u8,
+    descriptor: &[u8],
+    at: usize,
+) -> PropertyAnswer
+    ensures { λ r. ⌜ r ≡ propertyAnswer (propertyStep (propertyReader (classOf class) (orderOf order) at) (now (descriptor .entry))) ⌝ }
+{
+    let reader = PropertyReader {
+        class: class_of(class),
+        order: order_of(order),
+        at,
+    };
+    property_answer(reader.step(descriptor))
+}
+
+// A property's data as a number.
+#[no_mangle]
+pub extern "C" fn fetulombo_property_number(order: u8, part: &[u8]) -> NumberAnswer
+    ensures { λ r. ⌜ r ≡ propertyNumberAnswer (propertyNumber (orderOf order) (now (part .entry))) ⌝ }
+{
+    match property_number(order_of(order), part) {
+        PropertyNumber::Number(value) => number_answer(value as u64),
+        PropertyNumber::Refused(refusal) => no_number(refusal),
+    }
+}

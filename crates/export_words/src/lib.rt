@@ -1,0 +1,43 @@
+// Words at a place, for C. Refused: bytes that are too long.
+use endian::refusals::LIMIT;
+use endian::refusals::TOO_LONG;
+use endian::words::u16_at;
+use endian::words::u32_at;
+use endian::words::u64_at;
+use export::answers::NumberAnswer;
+use export::answers::no_number;
+use export::answers::number_answer;
+use export::kinds::order_of;
+ghost use mathlib.Core.Path.{_≡_};
+ghost use Rattle.export.specs.Answers.{orderOf};
+ghost use Rattle.export_words.specs.Answers.{wordAnswer};
+
+#[no_mangle]
+pub extern "C" fn fetulombo_u16_at(order: u8, bytes: &[u8], at: usize) -> NumberAnswer
+    ensures { λ r. ⌜ r ≡ wordAnswer (orderOf order) 2 (now (bytes .entry)) at ⌝ }
+{
+    if LIMIT < bytes.len() {
+        return no_number(TOO_LONG);
+    }
+    number_answer(u16_at(order_of(order), bytes, at) as u64)
+}
+
+#[no_mangle]
+pub extern "C" fn fetulombo_u32_at(order: u8, bytes: &[u8], at: usize) -> NumberAnswer
+    ensures { λ r. ⌜ r ≡ wordAnswer (orderOf order) 4 (now (bytes .entry)) at ⌝ }
+{
+    if LIMIT < bytes.len() {
+        return no_number(TOO_LONG);
+    }
+    number_answer(u32_at(order_of(order), bytes, at) as u64)
+}
+
+#[no_mangle]
+pub extern "C" fn fetulombo_u64_at(order: u8, bytes: &[u8], at: usize) -> NumberAnswer
+    ensures { λ r. ⌜ r ≡ wordAnswer (orderOf order) 8 (now (bytes .entry)) at ⌝ }
+{
+    if LIMIT < bytes.len() {
+        return no_number(TOO_LONG);
+    }
+    number_answer(u64_at(order_of(order), bytes, at))
+}

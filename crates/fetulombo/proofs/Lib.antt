@@ -1,2 +1,0 @@
--- `Truth`: a truth that is cast to a number.
-mod Truth
