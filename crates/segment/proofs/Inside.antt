@@ -1,6 +1,6 @@
 -- Bytes in the file and addresses among them, as code can ask for them: by differences, since a sum could wrap.
 --     leb-same                        two tests that say the same
---     in-file-past, in-file-rest      `isInFile`: by the offset, and by what is left after it
+--     in-file-rest, in-file-past      `isInFile`: by what is left after the offset, and by an offset past the end
 --     in-file-true                    what it says
 --     here-below, -past, -rest        `isHere`: by the address, by how far it is from vaddr, and by what is left after that
 --     here-true                       what it says
@@ -26,15 +26,15 @@ leb-same a b c d there back = by (leb a b) refl (leb c d) refl
     by false e false f = e ∙ sym f
 
 module _ (file : List ℕ) (segment : Segment) where
-  pub in-file-past : length file < segment .offset → isInFile file segment ≡ false
-  unfolding isInFile
-  in-file-past past = lt-leb (segment .offset + segment .filesz) (length file) (omega arith)
-
   pub in-file-rest : segment .offset ≤ length file → leb (segment .filesz) (length file - segment .offset) ≡ isInFile file segment
   unfolding isInFile
   in-file-rest reach =
       leb-same (segment .filesz) (length file - segment .offset) (segment .offset + segment .filesz) (length file)
       (λ h. omega arith) (λ h. omega arith)
+
+  pub in-file-past : length file < segment .offset → isInFile file segment ≡ false
+  unfolding isInFile
+  in-file-past past = lt-leb (segment .offset + segment .filesz) (length file) (omega arith)
 
   pub in-file-true : isInFile file segment ≡ true → segment .offset + segment .filesz ≤ length file
   unfolding isInFile

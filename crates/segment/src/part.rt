@@ -79,8 +79,10 @@ pub fn segment_data_range(
     if !is_here(segment, address, size) {
         return SegmentDataRange::NotHere;
     }
+    let from = address - segment.vaddr;
+    let start = segment.offset + from;
     SegmentDataRange::At {
-        start: (segment.offset + (address - segment.vaddr)) as usize,
+        start: start as usize,
         len: size as usize,
     }
 }

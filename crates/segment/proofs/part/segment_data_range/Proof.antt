@@ -33,14 +33,14 @@ returns-3 c =
       sym (c .before .is-here .ensures) ∙ not-true _ (c .if3 .taken),
     )
 
-sub-t10 : tie.Need-sub-t10
-sub-t10 c =
+sub-from : tie.Need-sub-from
+sub-from c =
     let args = c .before .before .before .before .before .before .before .args in
     let here = sym (c .before .before .is-here .ensures) ∙ not-false _ (c .before .if3 .left) in
     here-true (args .segment) (args .address) (args .size) here .0
 
-add-t11 : tie.Need-add-t11
-add-t11 c =
+add-start : tie.Need-add-start
+add-start c =
     let file = c .before .before .before .before .before in
     let args = file .before .before .before .args in
     let here = sym (c .before .before .before .is-here .ensures) ∙ not-false _ (c .before .before .if3 .left) in
@@ -67,6 +67,6 @@ segment-data-range-spec =
     returns-2
     is-here-requires
     returns-3
-    sub-t10
-    add-t11
+    sub-from
+    add-start
     returns-4)
