@@ -15,6 +15,7 @@ mod libraries;
 mod notes;
 mod record;
 mod report;
+mod segments;
 mod strings;
 mod symbols;
 mod versions;
@@ -67,6 +68,7 @@ fn main() -> ExitCode {
     hashes::compare(&mut run);
     notes::compare(&mut run);
     versions::compare(&mut run);
+    segments::compare(&mut run);
     run.report.print();
     if run.report.differences() == 0 {
         ExitCode::SUCCESS
