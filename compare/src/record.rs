@@ -326,10 +326,10 @@ fn segment(random: &mut Random) -> Vec<u8> {
         let fields = segments::made_up(random, length as u64);
         table.extend(segments::encoded(class, order, &fields));
     }
-    if random.below(4) == 0 {
+    if random.below(6) == 0 {
         table.truncate(random.below(table.len()));
     }
-    let number = match random.below(4) {
+    let number = match random.below(6) {
         0 => random.near(&[0, 2]) as u32,
         _ => random.below(2) as u32,
     };
@@ -346,10 +346,8 @@ fn segment(random: &mut Random) -> Vec<u8> {
         record.push(29);
         return padded(&record, 320);
     };
-    let end = fields.vaddr.wrapping_add(fields.filesz);
-    let address = random.near(&[fields.vaddr, end]);
-    let size = random.near(&[0, end.wrapping_sub(address)]);
-    let index = random.below(12) as u8;
+    let (address, size) = segments::asked(random, &fields);
+    let index = random.below(4) as u8;
     record.extend(address.to_le_bytes());
     record.extend(size.to_le_bytes());
     record.extend([index, 0]);

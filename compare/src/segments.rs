@@ -377,10 +377,19 @@ fn boundaries(run: &mut Run) {
     }
 }
 
-/// A segment around a file's length, mostly of a kind that holds something.
+/// A segment inside a file or around its end, mostly of a kind that holds something.
 pub fn made_up(random: &mut Random, length: u64) -> SegmentFields {
-    let offset = random.near(&[0, length / 2, length]);
-    let filesz = random.near(&[0, length / 2, length.wrapping_sub(offset)]);
+    let (offset, filesz) = match random.below(2) {
+        0 => {
+            let offset = random.near(&[0, length / 2, length]);
+            let filesz = random.near(&[0, length / 2, length.wrapping_sub(offset)]);
+            (offset, filesz)
+        }
+        _ => {
+            let offset = random.next() % (length + 1);
+            (offset, random.next() % (length - offset + 1))
+        }
+    };
     SegmentFields {
         p_type: match random.below(8) {
             0 => random.next() as u32,
@@ -392,7 +401,29 @@ pub fn made_up(random: &mut Random, length: u64) -> SegmentFields {
         paddr: random.next(),
         filesz,
         memsz: random.next(),
-        align: random.near(&[2, 4, 8]),
+        align: match random.below(4) {
+            0 => random.near(&[4, 8]),
+            _ => random.of(&[0, 1, 4, 8]),
+        },
+    }
+}
+
+/// An address and a size inside a segment's file bytes or around them.
+pub fn asked(random: &mut Random, fields: &SegmentFields) -> (u64, u64) {
+    let end = fields.vaddr.wrapping_add(fields.filesz);
+    match random.below(2) {
+        0 => {
+            let address = random.near(&[fields.vaddr, end]);
+            (
+                address,
+                random.near(&[0, fields.filesz, end.wrapping_sub(address)]),
+            )
+        }
+        _ => {
+            let from = random.next() % (fields.filesz | 1);
+            let size = random.next() % ((fields.filesz - from) | 1);
+            (fields.vaddr.wrapping_add(from), size)
+        }
     }
 }
 
@@ -417,9 +448,7 @@ fn random(run: &mut Run) {
         one(run, class, order, &table, index, &file);
         count(run, class, &table);
         let fields = made_up(&mut run.random, length as u64);
-        let end = fields.vaddr.wrapping_add(fields.filesz);
-        let address = run.random.near(&[fields.vaddr, end]);
-        let length = run.random.near(&[0, end.wrapping_sub(address)]);
+        let (address, length) = asked(&mut run.random, &fields);
         range(run, &fields, &file, address, length);
     }
 }
@@ -511,14 +540,8 @@ fn libraries(run: &mut Run) {
 }
 
 fn ranges(run: &mut Run, library: &Library, fields: &SegmentFields) {
-    let end = fields.vaddr.wrapping_add(fields.filesz);
     for _ in 0..50 {
-        let address = run
-            .random
-            .near(&[fields.vaddr, end, fields.vaddr / 2 + end / 2]);
-        let length = run
-            .random
-            .near(&[0, fields.filesz, end.wrapping_sub(address)]);
+        let (address, length) = asked(&mut run.random, fields);
         range(run, fields, &library.bytes, address, length);
     }
 }
