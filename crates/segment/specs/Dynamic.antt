@@ -5,7 +5,7 @@
 --     dynamicEntry      the entry of a number
 -- Assumes nothing.
 use Prim.Native.Nat.{ℕ, _+_, _*_, _/_}
-use mathlib.Core.Bool.{cond}
+use mathlib.Core.Bool.{cond, not}
 use mathlib.Core.List.{List}
 use lib.Dec.{eqb, leb, ltb}
 use lib.ListN.{length}
@@ -30,10 +30,9 @@ dynamicSize Elf64 = 16
 abbrev pub segmentDynamic : Class → List ℕ → Segment → SegmentDynamic
 segmentDynamic class file segment =
     cond (ltb limit (length file)) (Refused tooLong)
-    (cond (eqb (segment .kind) 2)
+    (cond (not (eqb (segment .kind) 2)) NotThisKind
     (cond (isInFile file segment) (At (segment .offset) (segment .filesz) (segment .filesz / dynamicSize class))
-    (Refused badDynamicPlace))
-    NotThisKind)
+    (Refused badDynamicPlace)))
 
 pub data DynamicField : Type 0 where
   tag value : DynamicField

@@ -4,7 +4,7 @@
 --     segmentInterpreter    the interpreter's name, as a place in the file
 -- Assumes nothing.
 use Prim.Native.Nat.{ℕ}
-use mathlib.Core.Bool.{cond}
+use mathlib.Core.Bool.{cond, not}
 use mathlib.Core.List.{List}
 use lib.Dec.{eqb, ltb}
 use lib.ListN.{length, take, drop}
@@ -26,7 +26,6 @@ upToZero start bytes = cond (readable bytes) (At start (first isZero bytes)) (Re
 abbrev pub segmentInterpreter : List ℕ → Segment → SegmentInterpreter
 segmentInterpreter file segment =
     cond (ltb limit (length file)) (Refused tooLong)
-    (cond (eqb (segment .kind) 3)
+    (cond (not (eqb (segment .kind) 3)) NotThisKind
     (cond (isInFile file segment) (upToZero (segment .offset) (bytesOf file segment))
-    (Refused badInterpreterPlace))
-    NotThisKind)
+    (Refused badInterpreterPlace)))

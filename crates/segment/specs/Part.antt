@@ -5,7 +5,7 @@
 --     segmentDataRange    the bytes of an address range, as a place in the file
 -- Assumes nothing.
 use Prim.Native.Nat.{ℕ, _+_, _-_}
-use mathlib.Core.Bool.{Bool, cond, _&&_}
+use mathlib.Core.Bool.{Bool, cond, not, _&&_}
 use mathlib.Core.List.{List}
 use lib.Dec.{leb, ltb}
 use lib.ListN.{length}
@@ -33,6 +33,6 @@ isHere segment address size = leb (segment .vaddr) address && leb (address + siz
 abbrev pub segmentDataRange : List ℕ → Segment → (address size : ℕ) → SegmentDataRange
 segmentDataRange file segment address size =
     cond (ltb limit (length file)) (Range·Refused tooLong)
-    (cond (isInFile file segment)
-    (cond (isHere segment address size) (Range·At (segment .offset + (address - segment .vaddr)) size) NotHere)
-    (Range·Refused badSegmentData))
+    (cond (not (isInFile file segment)) (Range·Refused badSegmentData)
+    (cond (isHere segment address size) (Range·At (segment .offset + (address - segment .vaddr)) size)
+    NotHere))

@@ -3,7 +3,7 @@
 --     segmentNotes    the notes of a segment: the place comes before the alignment
 -- Assumes nothing.
 use Prim.Native.Nat.{ℕ}
-use mathlib.Core.Bool.{cond}
+use mathlib.Core.Bool.{cond, not}
 use mathlib.Core.List.{List}
 use lib.Dec.{eqb, ltb}
 use lib.ListN.{length}
@@ -25,7 +25,6 @@ readBy segment (Reader·Refused refusal) = Refused refusal
 abbrev pub segmentNotes : Order → List ℕ → Segment → SegmentNotes
 segmentNotes order file segment =
     cond (ltb limit (length file)) (Refused tooLong)
-    (cond (eqb (segment .kind) 4)
+    (cond (not (eqb (segment .kind) 4)) NotThisKind
     (cond (isInFile file segment) (readBy segment (readerFor order (segment .align)))
-    (Refused badNotePlace))
-    NotThisKind)
+    (Refused badNotePlace)))

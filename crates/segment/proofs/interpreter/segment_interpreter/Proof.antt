@@ -32,7 +32,8 @@ add-end : tie.Need-add-end
 add-end c =
     let called = c .before in
     let args = called .before .before .before .before .before .args in
-    let within = in-file-true (args .file .now) (args .segment) (sym (called .is-in-file .ensures) ∙ not-false _ (c .if3 .left)) in
+    let inside = sym (called .is-in-file .ensures) ∙ not-false _ (c .if3 .left) in
+    let within = in-file-true (args .file .now) (args .segment) inside in
     record { fits = omega (arith, called .before .before .before .if1 .left) }
 
 sub-string-at : tie.Need-sub-string-at
