@@ -168,6 +168,46 @@ typedef struct {
     uint64_t symbols;
 } fetulombo_length;
 
+/* The fields of a segment's record. */
+typedef struct {
+    uint64_t refusal;
+    uint32_t kind;
+    uint32_t flags;
+    uint64_t offset;
+    uint64_t vaddr;
+    uint64_t paddr;
+    uint64_t filesz;
+    uint64_t memsz;
+    uint64_t align;
+} fetulombo_segment;
+
+/* What kind and flags of a segment say: kind is one of the FETULOMBO_SEGMENT numbers below, or 0 for any
+ * other type; the rest are 0 or 1. It is never refused. */
+typedef struct {
+    uint64_t kind;
+    uint64_t readable;
+    uint64_t writable;
+    uint64_t executable;
+} fetulombo_segment_meaning;
+
+/* A part of a lent file. found is 0 where there is none and it is not refused: a segment of another kind,
+ * or an address range that is not here; number is what its function says. */
+typedef struct {
+    uint32_t refusal;
+    uint32_t found;
+    uint64_t start;
+    uint64_t length;
+    uint64_t number;
+} fetulombo_part;
+
+/* A dynamic entry, both fields unsigned. found is 0 where there is none and it is not refused. */
+typedef struct {
+    uint32_t refusal;
+    uint32_t found;
+    uint64_t tag;
+    uint64_t value;
+} fetulombo_dynamic;
+
 /* The word of 2, 4 or 8 bytes at a place. A byte past the end counts as 0. */
 fetulombo_number fetulombo_u16_at(uint8_t order, const uint8_t *bytes, size_t bytes_length, size_t at);
 fetulombo_number fetulombo_u32_at(uint8_t order, const uint8_t *bytes, size_t bytes_length, size_t at);
@@ -293,6 +333,56 @@ fetulombo_length fetulombo_gnu_length(uint8_t table_class, uint8_t order, const 
 
 /* The length of the symbol table as a SysV table says it. Refused as fetulombo_sysv_find. */
 fetulombo_number fetulombo_sysv_length(uint8_t order, const uint8_t *table, size_t table_length);
+
+/* Types of segments: PT_LOAD, PT_DYNAMIC, PT_INTERP, PT_NOTE. */
+#define FETULOMBO_SEGMENT_LOAD 1
+#define FETULOMBO_SEGMENT_DYNAMIC 2
+#define FETULOMBO_SEGMENT_INTERPRETER 3
+#define FETULOMBO_SEGMENT_NOTE 4
+
+/* How many whole records a table of program headers has. */
+fetulombo_number fetulombo_segment_count(uint8_t segment_class, const uint8_t *table, size_t table_length);
+
+/* The segment of a number. FETULOMBO_NO_SEGMENT: no whole record stands there. */
+fetulombo_segment fetulombo_segment_at(uint8_t segment_class, uint8_t order, const uint8_t *table,
+                                       size_t table_length, uint32_t number);
+
+/* What the type and the flags of a segment say. */
+fetulombo_segment_meaning fetulombo_segment_facts(uint32_t kind, uint32_t flags);
+
+/* The functions below take the fields of a segment that their answer depends on, which may be any
+ * numbers, and the whole file. */
+
+/* The bytes of a segment. FETULOMBO_BAD_SEGMENT_DATA: they are not all in the file. */
+fetulombo_place fetulombo_segment_data(const uint8_t *file, size_t file_length, uint64_t offset,
+                                       uint64_t filesz);
+
+/* The bytes of an address range; found is 0 if it begins below vaddr or reaches past the segment's file
+ * bytes. number is 0. Refused as fetulombo_segment_data. */
+fetulombo_part fetulombo_segment_data_range(const uint8_t *file, size_t file_length, uint64_t offset,
+                                            uint64_t vaddr, uint64_t filesz, uint64_t address,
+                                            uint64_t size);
+
+/* The bytes of a dynamic segment; number is how many whole entries they have. found is 0 for another kind.
+ * FETULOMBO_BAD_DYNAMIC_PLACE: they are not all in the file. */
+fetulombo_part fetulombo_segment_dynamic(uint8_t segment_class, const uint8_t *file, size_t file_length,
+                                         uint32_t kind, uint64_t offset, uint64_t filesz);
+
+/* The entry of a number among the bytes of a dynamic segment; found is 0 past the whole entries. */
+fetulombo_dynamic fetulombo_segment_dynamic_entry(uint8_t segment_class, uint8_t order, const uint8_t *bytes,
+                                                  size_t bytes_length, uint32_t number);
+
+/* The name of the interpreter, up to its first zero; number is 0. found is 0 for another kind.
+ * FETULOMBO_BAD_INTERPRETER_PLACE: the segment's bytes are not all in the file;
+ * FETULOMBO_ENDLESS_INTERPRETER: there is no zero among them. */
+fetulombo_part fetulombo_segment_interpreter(const uint8_t *file, size_t file_length, uint32_t kind,
+                                             uint64_t offset, uint64_t filesz);
+
+/* The bytes of a segment of notes, for fetulombo_note_step; number is their alignment, 4 or 8. found is 0
+ * for another kind. FETULOMBO_BAD_NOTE_PLACE: they are not all in the file; then
+ * FETULOMBO_BAD_NOTE_ALIGNMENT. */
+fetulombo_part fetulombo_segment_notes(const uint8_t *file, size_t file_length, uint32_t kind, uint64_t offset,
+                                       uint64_t filesz, uint64_t align);
 
 #ifdef __cplusplus
 }

@@ -1,11 +1,15 @@
 //! The machine's own shared libraries: their sections, as the original reads them.
 
+use fetulombo::{Class, Order};
 use std::path::{Path, PathBuf};
 
 /// Folders that are looked into; COMPARE_LIBRARIES names others, separated by colons.
 const FOLDERS: &str = "/lib/x86_64-linux-gnu:/usr/lib/x86_64-linux-gnu:/lib64:/usr/lib64:/usr/lib";
 
-/// How many libraries are taken.
+/// Folders of programs, which name an interpreter as most libraries do not; COMPARE_PROGRAMS names others.
+const PROGRAMS: &str = "/bin:/usr/bin:/usr/sbin";
+
+/// How many libraries, and how many programs, are taken.
 const MOST: usize = 60;
 
 pub struct Library {
@@ -63,6 +67,26 @@ impl Library {
         })
     }
 
+    pub fn class(&self) -> Class {
+        match self.is64 {
+            true => Class::Elf64,
+            false => Class::Elf32,
+        }
+    }
+
+    pub fn order(&self) -> Order {
+        match self.big {
+            true => Order::Big,
+            false => Order::Little,
+        }
+    }
+
+    /// The table of program headers.
+    pub fn program_headers(&self) -> &[u8] {
+        let records = oracle::file_program_headers(self.is64, &self.bytes).expect("an ELF file");
+        &self.bytes[records.start..records.start + records.count * records.size]
+    }
+
     pub fn part(&self, section: &Section) -> &[u8] {
         &self.bytes[section.start..section.start + section.length]
     }
@@ -79,13 +103,23 @@ impl Library {
     }
 }
 
-/// Libraries and programs, the same ones in every run on one machine.
+/// Libraries, the same ones in every run on one machine.
 pub fn found() -> Vec<Library> {
     let folders = std::env::var("COMPARE_LIBRARIES").unwrap_or(FOLDERS.to_owned());
+    opened(&folders, |name| name.contains(".so"))
+}
+
+/// Programs, the same.
+pub fn programs() -> Vec<Library> {
+    let folders = std::env::var("COMPARE_PROGRAMS").unwrap_or(PROGRAMS.to_owned());
+    opened(&folders, |_| true)
+}
+
+fn opened(folders: &str, wanted: impl Fn(&str) -> bool) -> Vec<Library> {
     let mut paths: Vec<PathBuf> = Vec::new();
     for folder in folders.split(':') {
         for entry in std::fs::read_dir(folder).into_iter().flatten().flatten() {
-            if entry.file_name().to_string_lossy().contains(".so") {
+            if wanted(&entry.file_name().to_string_lossy()) {
                 paths.extend(entry.path().canonicalize());
             }
         }

@@ -17,6 +17,7 @@ mod notes;
 mod plain;
 mod record;
 mod report;
+mod segments;
 mod strings;
 mod symbols;
 mod tables;
@@ -71,6 +72,7 @@ fn main() -> ExitCode {
     notes::compare(&mut run);
     versions::compare(&mut run);
     lookups::compare(&mut run);
+    segments::compare(&mut run);
     run.report.print();
     if run.report.differences() == 0 {
         ExitCode::SUCCESS

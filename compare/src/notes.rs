@@ -18,17 +18,17 @@ pub fn compare(run: &mut Run) {
 
 /// A note's fields and places, and the length of its trimmed name.
 #[derive(Debug, PartialEq, Eq)]
-struct Note {
+pub struct Note {
     kind: u32,
-    name: (usize, usize),
+    pub name: (usize, usize),
     trimmed: usize,
-    descriptor: (usize, usize),
+    pub descriptor: (usize, usize),
 }
 
 /// A step: a note or the end, or a refusal.
-type Step<T> = Answer<Option<T>>;
+pub type Step<T> = Answer<Option<T>>;
 
-fn original_steps(walk: &[NoteStep]) -> Vec<Step<Note>> {
+pub fn original_steps(walk: &[NoteStep]) -> Vec<Step<Note>> {
     let note = |info: &NoteInfo| {
         assert_eq!(info.name.1, info.namesz as usize);
         assert_eq!(info.desc.1, info.descsz as usize);
@@ -50,7 +50,7 @@ fn original_steps(walk: &[NoteStep]) -> Vec<Step<Note>> {
     steps
 }
 
-fn our_steps(notes: fetulombo::Notes<'_>) -> Vec<Step<Note>> {
+pub fn our_steps(notes: fetulombo::Notes<'_>) -> Vec<Step<Note>> {
     let mut steps: Vec<Step<Note>> = notes
         .map(|step| match step {
             Ok(note) => Ok(Some(Note {
@@ -67,7 +67,7 @@ fn our_steps(notes: fetulombo::Notes<'_>) -> Vec<Step<Note>> {
 }
 
 /// Holds two walks together, step by step.
-fn walks<T: PartialEq + std::fmt::Debug>(
+pub fn walks<T: PartialEq + std::fmt::Debug>(
     run: &mut Run,
     name: &'static str,
     found: &'static str,

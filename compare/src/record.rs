@@ -3,6 +3,7 @@
 
 use crate::inputs::{KINDS, Random, big, is64};
 use crate::notes::{property_bytes, section};
+use crate::segments;
 use crate::strings::original_equals;
 use crate::symbols::size;
 use crate::versions::{Parts, made_up, numbers, original};
@@ -30,6 +31,10 @@ pub fn write(folder: &Path, seed: u64) {
         .flat_map(|_| version(&mut random))
         .collect();
     std::fs::write(folder.join("version_replay/stdin"), versions).expect("version_replay");
+    let segments: Vec<u8> = (0..RECORDS / 2)
+        .flat_map(|_| segment(&mut random))
+        .collect();
+    std::fs::write(folder.join("segment_replay/stdin"), segments).expect("segment_replay");
 }
 
 fn padded(bytes: &[u8], length: usize) -> Vec<u8> {
@@ -291,4 +296,105 @@ fn version(random: &mut Random) -> Vec<u8> {
         record.push(matches.into());
         return padded(&record, 288);
     }
+}
+
+/// What an answer about a segment is recorded as.
+const NONE: u8 = 2;
+
+/// 5 bytes: what, refusal, start, length, number.
+fn part(found: Result<Option<(usize, usize, usize)>, u32>) -> [u8; 5] {
+    match found {
+        Ok(Some((start, length, number))) => [FOUND, 0, start as u8, length as u8, number as u8],
+        Ok(None) => [NONE, 0, 0, 0, 0],
+        Err(refusal) => [REFUSED, refusal as u8, 0, 0, 0],
+    }
+}
+
+/// 320 bytes: class, order, table (its length in 1, then 112), number in 4, file (its length in 1, then
+/// 80), address and size in 8 each, an entry's number in 1; refusal in 1, type and flags in 4 each,
+/// offset, vaddr, paddr, filesz, memsz and align in 8 each; data, range, dynamic with its count,
+/// interpreter, and notes with their alignment in 5 each; of the dynamic entry what in 1, tag and value
+/// in 8 each; 4 unused. After a refused record all else is 0.
+fn segment(random: &mut Random) -> Vec<u8> {
+    let (class, order) = random.of(&KINDS);
+    let (wide, other) = (is64(class), big(order));
+    let length = random.below(81);
+    let zeros = random.of(&[2, 12, 100]);
+    let file = random.bytes(length, zeros);
+    let mut table = Vec::new();
+    for _ in 0..2 {
+        let fields = segments::made_up(random, length as u64);
+        table.extend(segments::encoded(class, order, &fields));
+    }
+    if random.below(6) == 0 {
+        table.truncate(random.below(table.len()));
+    }
+    let number = match random.below(6) {
+        0 => random.near(&[0, 2]) as u32,
+        _ => random.below(2) as u32,
+    };
+    let bytes = segments::record(class, &table, number);
+    let found = oracle::segment_fields(wide, other, bytes);
+
+    let mut record = vec![wide.into(), other.into(), table.len() as u8];
+    record.extend(padded(&table, 112));
+    record.extend(number.to_le_bytes());
+    record.push(length as u8);
+    record.extend(padded(&file, 80));
+    let Ok(fields) = found else {
+        record.extend([0; 17]);
+        record.push(29);
+        return padded(&record, 320);
+    };
+    let (address, size) = segments::asked(random, &fields);
+    let index = random.below(4) as u8;
+    record.extend(address.to_le_bytes());
+    record.extend(size.to_le_bytes());
+    record.extend([index, 0]);
+    record.extend(fields.p_type.to_le_bytes());
+    record.extend(fields.flags.to_le_bytes());
+    for word in [
+        fields.offset,
+        fields.vaddr,
+        fields.paddr,
+        fields.filesz,
+        fields.memsz,
+        fields.align,
+    ] {
+        record.extend(word.to_le_bytes());
+    }
+    let data = oracle::segment_data(wide, other, bytes, &file);
+    let range = oracle::segment_data_range(wide, other, bytes, &file, address, size);
+    let dynamic = oracle::segment_dynamic(wide, other, bytes, &file);
+    let interpreter = oracle::segment_interpreter(wide, other, bytes, &file);
+    let notes = oracle::segment_notes(wide, other, bytes, &file);
+    let with = |place: (usize, usize)| (place.0, place.1, 0);
+    record.extend(part(data.map(|place| Some(with(place)))));
+    record.extend(part(range.map(|found| found.map(with))));
+    record.extend(part(dynamic.as_ref().map_err(|&number| number).map(
+        |found| {
+            let found = found.as_ref()?;
+            Some((found.start, data.unwrap().1, found.entries.len()))
+        },
+    )));
+    record.extend(part(interpreter.map(|found| found.map(with))));
+    record.extend(part(notes.map(|found| {
+        let (start, length) = found.map(|_| data.unwrap())?;
+        Some((start, length, if fields.align == 8 { 8 } else { 4 }))
+    })));
+    if let Ok(Some(dynamic)) = dynamic {
+        match dynamic.entries.get(index as usize) {
+            Some(entry) => {
+                let tag = match wide {
+                    true => entry.tag as u64,
+                    false => (entry.tag as u32).into(),
+                };
+                record.push(FOUND);
+                record.extend(tag.to_le_bytes());
+                record.extend(entry.value.to_le_bytes());
+            }
+            None => record.push(NONE),
+        }
+    }
+    padded(&record, 320)
 }

@@ -9,6 +9,7 @@ mod lookup;
 mod note;
 mod raw;
 mod refusal;
+mod segment;
 mod string;
 mod symbol;
 mod version;
@@ -20,6 +21,10 @@ pub use note::{
     Note, Notes, Properties, Property, gnu_properties, notes, property_number, trimmed,
 };
 pub use refusal::Refusal;
+pub use segment::{
+    Dynamic, DynamicEntry, Permissions, Segment, SegmentKind, dynamic_entry, segment_at,
+    segment_count,
+};
 pub use string::{string_at, string_equals, string_place};
 pub use symbol::{Symbol, SymbolIndex, symbol_at, symbol_count, symbol_name, symbol_name_place};
 pub use version::{

@@ -96,6 +96,44 @@ pub struct Length {
     pub symbols: u64,
 }
 
+#[repr(C)]
+pub struct Segment {
+    pub refusal: u64,
+    pub kind: u32,
+    pub flags: u32,
+    pub offset: u64,
+    pub vaddr: u64,
+    pub paddr: u64,
+    pub filesz: u64,
+    pub memsz: u64,
+    pub align: u64,
+}
+
+#[repr(C)]
+pub struct SegmentMeaning {
+    pub kind: u64,
+    pub readable: u64,
+    pub writable: u64,
+    pub executable: u64,
+}
+
+#[repr(C)]
+pub struct Part {
+    pub refusal: u32,
+    pub found: u32,
+    pub start: u64,
+    pub length: u64,
+    pub number: u64,
+}
+
+#[repr(C)]
+pub struct Dynamic {
+    pub refusal: u32,
+    pub found: u32,
+    pub tag: u64,
+    pub value: u64,
+}
+
 // More than 16 bytes each: handed back through memory.
 const _: () = assert!(size_of::<Number>() == 24);
 const _: () = assert!(size_of::<Place>() == 24);
@@ -107,6 +145,10 @@ const _: () = assert!(size_of::<Version>() == 32);
 const _: () = assert!(size_of::<Versym>() == 24);
 const _: () = assert!(size_of::<Lookup>() == 24);
 const _: () = assert!(size_of::<Length>() == 24);
+const _: () = assert!(size_of::<Segment>() == 64);
+const _: () = assert!(size_of::<SegmentMeaning>() == 32);
+const _: () = assert!(size_of::<Part>() == 32);
+const _: () = assert!(size_of::<Dynamic>() == 24);
 
 impl Number {
     pub fn get(self) -> Result<u64, Refusal> {
@@ -119,6 +161,18 @@ impl Place {
     pub fn get(self) -> Result<Range<usize>, Refusal> {
         Refusal::test(self.refusal)?;
         Ok(self.start as usize..(self.start + self.length) as usize)
+    }
+}
+
+impl Part {
+    /// The place and the number, or nothing.
+    pub fn get(self) -> Result<Option<(Range<usize>, u64)>, Refusal> {
+        Refusal::test(self.refusal.into())?;
+        if self.found == 0 {
+            return Ok(None);
+        }
+        let place = self.start as usize..(self.start + self.length) as usize;
+        Ok(Some((place, self.number)))
     }
 }
 
@@ -279,4 +333,58 @@ unsafe extern "C" {
     pub fn fetulombo_gnu_base(class: u8, order: u8, table: *const u8, length: usize) -> Number;
     pub fn fetulombo_gnu_length(class: u8, order: u8, table: *const u8, length: usize) -> Length;
     pub fn fetulombo_sysv_length(order: u8, table: *const u8, length: usize) -> Number;
+    pub fn fetulombo_segment_count(class: u8, table: *const u8, length: usize) -> Number;
+    pub fn fetulombo_segment_at(
+        class: u8,
+        order: u8,
+        table: *const u8,
+        length: usize,
+        number: u32,
+    ) -> Segment;
+    pub fn fetulombo_segment_facts(kind: u32, flags: u32) -> SegmentMeaning;
+    pub fn fetulombo_segment_data(
+        file: *const u8,
+        length: usize,
+        offset: u64,
+        filesz: u64,
+    ) -> Place;
+    pub fn fetulombo_segment_data_range(
+        file: *const u8,
+        length: usize,
+        offset: u64,
+        vaddr: u64,
+        filesz: u64,
+        address: u64,
+        size: u64,
+    ) -> Part;
+    pub fn fetulombo_segment_dynamic(
+        class: u8,
+        file: *const u8,
+        length: usize,
+        kind: u32,
+        offset: u64,
+        filesz: u64,
+    ) -> Part;
+    pub fn fetulombo_segment_dynamic_entry(
+        class: u8,
+        order: u8,
+        bytes: *const u8,
+        length: usize,
+        number: u32,
+    ) -> Dynamic;
+    pub fn fetulombo_segment_interpreter(
+        file: *const u8,
+        length: usize,
+        kind: u32,
+        offset: u64,
+        filesz: u64,
+    ) -> Part;
+    pub fn fetulombo_segment_notes(
+        file: *const u8,
+        length: usize,
+        kind: u32,
+        offset: u64,
+        filesz: u64,
+        align: u64,
+    ) -> Part;
 }

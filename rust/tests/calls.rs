@@ -332,6 +332,102 @@ fn a_lookup_binds_the_version_that_it_states() {
 }
 
 #[test]
+fn segments() {
+    // Little, 32 bits: type, offset, vaddr, paddr, filesz, memsz, flags, align.
+    let mut table = Vec::new();
+    for field in [2u32, 8, 0x1000, 0x2000, 16, 32, 6, 4] {
+        table.extend(field.to_le_bytes());
+    }
+    table.extend([0xee; 31]);
+    let (class, order) = (Class::Elf32, Order::Little);
+    assert_eq!(segment_count(class, &table), Ok(1));
+    assert_eq!(segment_count(Class::Elf64, &table), Ok(1));
+    let segment = segment_at(class, order, &table, 0).unwrap();
+    assert_eq!(
+        segment,
+        Segment {
+            kind: 2,
+            flags: 6,
+            offset: 8,
+            vaddr: 0x1000,
+            paddr: 0x2000,
+            filesz: 16,
+            memsz: 32,
+            align: 4
+        }
+    );
+    assert_eq!(segment.known_kind(), SegmentKind::Dynamic);
+    assert_eq!(segment.file_range(), (8, 16));
+    let may = segment.permissions();
+    assert!(may.readable && may.writable && !may.executable);
+    for number in [1, u32::MAX] {
+        let refused = segment_at(class, order, &table, number);
+        assert_eq!(refused, Err(Refusal::NO_SEGMENT));
+    }
+    let file = b"/lib/x\0\0\x01\0\0\0\x80\0\0\0\x02\0\0\0\x03\0\0\0";
+    assert_eq!(segment.data(file), Ok(&file[8..]));
+    assert_eq!(segment.data(&file[1..]), Err(Refusal::BAD_SEGMENT_DATA));
+    assert_eq!(segment.data_range_place(file, 0x1004, 12), Ok(Some(12..24)));
+    assert_eq!(segment.data_range(file, 0x1010, 0), Ok(Some(&b""[..])));
+    assert_eq!(segment.data_range(file, 0x1004, 13), Ok(None));
+    assert_eq!(segment.data_range(file, 0xfff, 1), Ok(None));
+    assert_eq!(segment.data_range(file, 0x1001, u64::MAX), Ok(None));
+    let dynamic = segment.dynamic(class, order, file).unwrap().unwrap();
+    assert_eq!((dynamic.place.clone(), dynamic.count), (8..24, 2));
+    assert_eq!(dynamic.bytes(), &file[8..]);
+    let entries: Vec<_> = dynamic.entries().map(|e| (e.tag, e.value)).collect();
+    assert_eq!(entries, [(1, 0x80), (2, 3)]);
+    assert_eq!(dynamic.entry(2), None);
+    assert_eq!(
+        dynamic_entry(Class::Elf64, order, &file[8..23], 0),
+        Ok(None)
+    );
+    let past = Segment {
+        offset: 9,
+        ..segment
+    };
+    let refused = past.dynamic(class, order, file);
+    assert_eq!(refused, Err(Refusal::BAD_DYNAMIC_PLACE));
+    let wraps = Segment {
+        offset: 8,
+        filesz: u64::MAX,
+        ..segment
+    };
+    assert_eq!(wraps.data(file), Err(Refusal::BAD_SEGMENT_DATA));
+    let name = Segment {
+        kind: 3,
+        offset: 1,
+        filesz: 23,
+        ..segment
+    };
+    assert_eq!(name.known_kind(), SegmentKind::Interpreter);
+    assert_eq!(name.interpreter(file), Ok(Some(&b"lib/x"[..])));
+    assert_eq!(
+        name.interpreter_place(&file[1..]),
+        Err(Refusal::BAD_INTERPRETER_PLACE)
+    );
+    let endless = Segment { filesz: 5, ..name };
+    assert_eq!(endless.interpreter(file), Err(Refusal::ENDLESS_INTERPRETER));
+    assert_eq!(name.dynamic(class, order, file), Ok(None));
+    assert_eq!(segment.interpreter(file), Ok(None));
+    assert!(segment.notes(order, file).unwrap().is_none());
+    let held = Segment {
+        kind: 4,
+        offset: 8,
+        ..segment
+    };
+    assert_eq!(held.known_kind(), SegmentKind::Note);
+    assert_eq!(held.notes_place(file), Ok(Some((8..24, 4))));
+    let mut walk = held.notes(order, file).unwrap().unwrap();
+    assert_eq!(walk.next(), Some(Err(Refusal::BAD_NOTE_DESCRIPTOR)));
+    assert_eq!(walk.next(), None);
+    let odd = Segment { align: 5, ..held };
+    assert_eq!(odd.notes_place(file), Err(Refusal::BAD_NOTE_ALIGNMENT));
+    let outside = Segment { offset: 9, ..odd };
+    assert_eq!(outside.notes_place(file), Err(Refusal::BAD_NOTE_PLACE));
+}
+
+#[test]
 fn too_long_comes_first() {
     let part = vec![0; LIMIT + 1];
     let long = Err(Refusal::TOO_LONG);
@@ -395,6 +491,15 @@ fn too_long_comes_first() {
     };
     let found = table.find(symbols, Versions::NONE, wanted);
     assert_eq!(found.map(drop), long);
+    assert_eq!(segment_count(class, &part).map(drop), long);
+    assert_eq!(segment_at(class, order, &part, 0).map(drop), long);
+    assert_eq!(dynamic_entry(class, order, &part, 0).map(drop), long);
+    let segment = segment_at(class, order, &[0; 56], 0).unwrap();
+    assert_eq!(segment.data(&part).map(drop), long);
+    assert_eq!(segment.data_range(&part, 1, 1).map(drop), long);
+    assert_eq!(segment.dynamic(class, order, &part).map(drop), long);
+    assert_eq!(segment.interpreter(&part).map(drop), long);
+    assert_eq!(segment.notes(order, &part).map(drop), long);
     assert_eq!(string_at(&part[1..], 0), Ok(&b""[..]));
     assert_eq!(gnu_hash(&part[1..]).map(drop), Ok(()));
 }

@@ -24,6 +24,10 @@ _Static_assert(sizeof(fetulombo_note) == 56, "note");
 _Static_assert(sizeof(fetulombo_property) == 40, "property");
 _Static_assert(sizeof(fetulombo_version) == 32, "version");
 _Static_assert(sizeof(fetulombo_versym) == 24, "versym");
+_Static_assert(sizeof(fetulombo_segment) == 64, "segment");
+_Static_assert(sizeof(fetulombo_segment_meaning) == 32, "segment meaning");
+_Static_assert(sizeof(fetulombo_part) == 32, "part");
+_Static_assert(sizeof(fetulombo_dynamic) == 24, "dynamic");
 
 static void words(void) {
     const uint8_t bytes[] = {1, 2, 3, 4, 5, 6, 7, 8, 9};
@@ -239,6 +243,93 @@ static void lookups(void) {
     same("SysV chains", fetulombo_sysv_length(1, sysv, 19).refusal, FETULOMBO_BAD_SYSV_CHAINS);
     same("SysV buckets", fetulombo_sysv_length(1, sysv, 11).refusal, FETULOMBO_BAD_SYSV_BUCKETS);
     same("SysV header", fetulombo_sysv_length(1, sysv, 7).refusal, FETULOMBO_BAD_SYSV_HEADER);
+
+static void segments(void) {
+    /* Big, 32 bits: type 2, offset 1, vaddr 0x1000, paddr 3, filesz 20, memsz 5, flags 6, align 7. */
+    const uint8_t small[33] = {[3] = 2, [7] = 1, [10] = 0x10, [15] = 3, [19] = 20, [23] = 5, [27] = 6, [31] = 7};
+    /* Little, 64 bits: type 0x6474e551, flags 5, then offset, vaddr, paddr, filesz, memsz, align. */
+    const uint8_t large[56] = {0x51, 0xe5, 0x74, 0x64, 5, 0, 0, 0, [15] = 0x80, [16] = 2, [24] = 3, [32] = 4, [40] = 5, [48] = 6};
+    same("segments", fetulombo_segment_count(FETULOMBO_ELF32, small, 33).value, 1);
+    same("segments of 64 bits", fetulombo_segment_count(FETULOMBO_ELF64, small, 33).value, 0);
+    fetulombo_segment segment = fetulombo_segment_at(FETULOMBO_ELF32, FETULOMBO_BIG, small, 33, 0);
+    same("segment refusal", segment.refusal, 0);
+    same("segment kind", segment.kind, FETULOMBO_SEGMENT_DYNAMIC);
+    same("segment flags", segment.flags, 6);
+    same("segment offset", segment.offset, 1);
+    same("segment vaddr", segment.vaddr, 0x1000);
+    same("segment paddr", segment.paddr, 3);
+    same("segment filesz", segment.filesz, 20);
+    same("segment memsz", segment.memsz, 5);
+    same("segment align", segment.align, 7);
+    same("no segment", fetulombo_segment_at(FETULOMBO_ELF32, FETULOMBO_BIG, small, 33, 1).refusal, FETULOMBO_NO_SEGMENT);
+    segment = fetulombo_segment_at(FETULOMBO_ELF64, FETULOMBO_LITTLE, large, 56, 0);
+    same("large refusal", segment.refusal, 0);
+    same("large kind", segment.kind, 0x6474e551);
+    same("large flags", segment.flags, 5);
+    same("large offset", segment.offset, 0x8000000000000000);
+    same("large vaddr", segment.vaddr, 2);
+    same("large paddr", segment.paddr, 3);
+    same("large filesz", segment.filesz, 4);
+    same("large memsz", segment.memsz, 5);
+    same("large align", segment.align, 6);
+    fetulombo_segment_meaning meaning = fetulombo_segment_facts(4, 5);
+    same("note", meaning.kind, FETULOMBO_SEGMENT_NOTE);
+    same("readable", meaning.readable, 1);
+    same("writable", meaning.writable, 0);
+    same("executable", meaning.executable, 1);
+    same("other", fetulombo_segment_facts(5, 2).kind, 0);
+    same("only writable", fetulombo_segment_facts(5, 2).writable, 1);
+    /* A file of 24 bytes. */
+    const uint8_t file[] = "/lib/x\0\0\1\0\0\0\x80\0\0\0\2\0\0\0\3\0\0";
+    fetulombo_place place = fetulombo_segment_data(file, 24, 8, 16);
+    same("data refusal", place.refusal, 0);
+    same("data start", place.start, 8);
+    same("data length", place.length, 16);
+    same("no data at the end", fetulombo_segment_data(file, 24, 24, 0).refusal, 0);
+    same("no data past it", fetulombo_segment_data(file, 24, 25, 0).refusal, FETULOMBO_BAD_SEGMENT_DATA);
+    same("a sum that wraps", fetulombo_segment_data(file, 24, 8, UINT64_MAX).refusal, FETULOMBO_BAD_SEGMENT_DATA);
+    fetulombo_part part = fetulombo_segment_data_range(file, 24, 8, 0x1000, 16, 0x1004, 12);
+    same("range refusal", part.refusal, 0);
+    same("range found", part.found, 1);
+    same("range start", part.start, 12);
+    same("range length", part.length, 12);
+    same("range below", fetulombo_segment_data_range(file, 24, 8, 0x1000, 16, 0xfff, 1).found, 0);
+    same("range past", fetulombo_segment_data_range(file, 24, 8, 0x1000, 16, 0x1004, 13).found, 0);
+    same("range that wraps", fetulombo_segment_data_range(file, 24, 8, 0x1000, 16, 0x1001, UINT64_MAX).found, 0);
+    same("range of bad data", fetulombo_segment_data_range(file, 24, 9, 0, 16, 0, 0).refusal, FETULOMBO_BAD_SEGMENT_DATA);
+    part = fetulombo_segment_dynamic(FETULOMBO_ELF32, file, 24, FETULOMBO_SEGMENT_DYNAMIC, 8, 15);
+    same("dynamic refusal", part.refusal, 0);
+    same("dynamic found", part.found, 1);
+    same("dynamic start", part.start, 8);
+    same("dynamic length", part.length, 15);
+    same("dynamic entries", part.number, 1);
+    same("not dynamic", fetulombo_segment_dynamic(FETULOMBO_ELF32, file, 24, 1, 99, 99).found, 0);
+    same("dynamic place", fetulombo_segment_dynamic(1, file, 24, 2, 9, 16).refusal, FETULOMBO_BAD_DYNAMIC_PLACE);
+    fetulombo_dynamic entry = fetulombo_segment_dynamic_entry(FETULOMBO_ELF32, FETULOMBO_LITTLE, file + 8, 15, 0);
+    same("entry refusal", entry.refusal, 0);
+    same("entry found", entry.found, 1);
+    same("entry tag", entry.tag, 1);
+    same("entry value", entry.value, 0x80);
+    same("entry of 64 bits", fetulombo_segment_dynamic_entry(1, 1, file + 8, 16, 0).tag, 0x0100000080000000);
+    same("no entry", fetulombo_segment_dynamic_entry(0, 0, file + 8, 15, 1).found, 0);
+    part = fetulombo_segment_interpreter(file, 24, FETULOMBO_SEGMENT_INTERPRETER, 1, 7);
+    same("interpreter refusal", part.refusal, 0);
+    same("interpreter found", part.found, 1);
+    same("interpreter start", part.start, 1);
+    same("interpreter length", part.length, 5);
+    same("not an interpreter", fetulombo_segment_interpreter(file, 24, 1, 99, 99).found, 0);
+    same("interpreter place", fetulombo_segment_interpreter(file, 24, 3, 1, 24).refusal, FETULOMBO_BAD_INTERPRETER_PLACE);
+    same("interpreter without zero", fetulombo_segment_interpreter(file, 24, 3, 0, 6).refusal, FETULOMBO_ENDLESS_INTERPRETER);
+    part = fetulombo_segment_notes(file, 24, FETULOMBO_SEGMENT_NOTE, 4, 20, 1);
+    same("notes refusal", part.refusal, 0);
+    same("notes found", part.found, 1);
+    same("notes start", part.start, 4);
+    same("notes length", part.length, 20);
+    same("notes alignment", part.number, 4);
+    same("notes aligned to 8", fetulombo_segment_notes(file, 24, 4, 4, 20, 8).number, 8);
+    same("not notes", fetulombo_segment_notes(file, 24, 1, 99, 99, 5).found, 0);
+    same("notes place", fetulombo_segment_notes(file, 24, 4, 4, 21, 5).refusal, FETULOMBO_BAD_NOTE_PLACE);
+    same("bad alignment", fetulombo_segment_notes(file, 24, 4, 4, 20, 5).refusal, FETULOMBO_BAD_NOTE_ALIGNMENT);
 }
 
 static void limits(void) {
@@ -301,6 +392,16 @@ static void limits(void) {
     same("GNU length past it", fetulombo_gnu_length(0, 0, part, limit + 1).refusal, FETULOMBO_TOO_LONG);
     same("GNU base past it", fetulombo_gnu_base(0, 0, part, limit + 1).refusal, FETULOMBO_TOO_LONG);
     same("SysV length past it", fetulombo_sysv_length(0, part, limit + 1).refusal, FETULOMBO_TOO_LONG);
+    same("segments at the limit", fetulombo_segment_count(0, part, limit).value, limit / 32);
+    same("segments past it", fetulombo_segment_count(0, part, limit + 1).refusal, FETULOMBO_TOO_LONG);
+    same("segment past it", fetulombo_segment_at(0, 0, part, limit + 1, 0).refusal, FETULOMBO_TOO_LONG);
+    same("data at the limit", fetulombo_segment_data(part, limit, 0, limit).length, limit);
+    same("data past it", fetulombo_segment_data(part, limit + 1, 0, 0).refusal, FETULOMBO_TOO_LONG);
+    same("range past it", fetulombo_segment_data_range(part, limit + 1, 0, 0, 0, 0, 0).refusal, FETULOMBO_TOO_LONG);
+    same("dynamic past it", fetulombo_segment_dynamic(0, part, limit + 1, 1, 0, 0).refusal, FETULOMBO_TOO_LONG);
+    same("entry past it", fetulombo_segment_dynamic_entry(0, 0, part, limit + 1, 0).refusal, FETULOMBO_TOO_LONG);
+    same("interpreter past it", fetulombo_segment_interpreter(part, limit + 1, 1, 0, 0).refusal, FETULOMBO_TOO_LONG);
+    same("notes past it", fetulombo_segment_notes(part, limit + 1, 1, 0, 0, 0).refusal, FETULOMBO_TOO_LONG);
     free(part);
 }
 
@@ -312,6 +413,7 @@ int main(void) {
     notes();
     versions();
     lookups();
+    segments();
     limits();
     if (failures != 0) {
         return 1;

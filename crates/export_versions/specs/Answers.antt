@@ -13,7 +13,7 @@ use Rattle.endian.specs.declared.kinds.Order.{Order}
 use Rattle.endian.specs.Refusals.{anyLong, tooLong}
 use Rattle.symbol.specs.declared.table.SymbolIndex.{SymbolIndex}
 use Rattle.version.specs.declared.index.VersionIndex.{VersionIndex}
-use Rattle.version.specs.declared.parse.Parsed.{Parsed}
+use Rattle.version_parse.specs.declared.parse.Parsed.{Parsed}
 use Rattle.version.specs.declared.table.EntryAt.{EntryAt}
 use Rattle.version.specs.declared.table.Need.{Need}
 use Rattle.version.specs.declared.table.VersymAt.{VersymAt}

@@ -8,13 +8,13 @@ use export::answers::truth_answer;
 use export::kinds::order_of;
 use symbol::table::SymbolIndex;
 use version::index::VersionIndex;
-use version::parse::Parsed;
 use version::table::EntryAt;
 use version::table::Need;
 use version::table::VersymAt;
+use version_parse::parse::Parsed;
 ghost use mathlib.Core.Path.{_≡_};
 ghost use lib.ListN.{length};
-ghost use Rattle.version.specs.Parse.{parsed, answerOf, storeAfter};
+ghost use Rattle.version_parse.specs.Parse.{parsed, answerOf, storeAfter};
 ghost use Rattle.version.specs.Table.{entryAt, versymAt};
 ghost use Rattle.export.specs.Answers.{orderOf, symbolIndex};
 ghost use Rattle.export_versions.specs.Answers.{needOf, versionIndex, parsedAnswer, noVersion, versionAnswer, versymAnswer, matchAnswer};
@@ -57,7 +57,7 @@ pub extern "C" fn fetulombo_versions_parse(
         ≡ storeAfter (length (now (store .entry)))
         (parsed (orderOf order) (now (verdef .entry)) (now (verneed .entry)) (now (strings .entry)) (length (now (store .entry)))) ⌝ }
 {
-    match version::parse::parse(order_of(order), verdef, verneed, strings, store) {
+    match version_parse::parse::parse(order_of(order), verdef, verneed, strings, store) {
         Parsed::Highest(index) => number_answer(index.0 as u64),
         Parsed::Refused(refusal) => no_number(refusal),
     }

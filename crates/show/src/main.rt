@@ -13,9 +13,9 @@ use symbol::entry::Symbol;
 use symbol::table::SymbolAt;
 use symbol::table::SymbolCount;
 use symbol::table::SymbolIndex;
-use version::parse::Parsed;
 use version::table::Need;
 use version::table::VersymAt;
+use version_parse::parse::Parsed;
 
 fn put(text: &[u8]) {
     io::write_all(STDOUT_FILENO, text);
@@ -261,7 +261,7 @@ fn versions() {
     let versyms = b"\0\0\x02\x80\x03\0";
     let mut store = [0u32; 24];
     put(b"symbol index  version  no need  LOT_1.0  LOT_2.0\n");
-    match version::parse::parse(Order::Little, verdef, b"", strings, &mut store) {
+    match version_parse::parse::parse(Order::Little, verdef, b"", strings, &mut store) {
         Parsed::Highest(_) => {
             version_row(versyms, &store, strings, 1);
             version_row(versyms, &store, strings, 2);

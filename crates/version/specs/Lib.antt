@@ -1,11 +1,3 @@
-pub mod Entries
-pub mod Highest
 pub mod Index
-pub mod Layouts
-pub mod Outcome
-pub mod Parse
-pub mod Records
-pub mod Room
 pub mod Store
 pub mod Table
-pub mod Walk

@@ -18,8 +18,7 @@ use Rattle.endian.specs.Word.{wordAt}
 use Rattle.strings.specs.Strings.{same}
 use Rattle.symbol.specs.declared.table.SymbolIndex.{SymbolIndex}
 use Rattle.version.specs.Index.{isSpecial}
-use Rattle.version.specs.Store.{entrySize, storeNeeds}
-use Rattle.version.specs.Entries.{noFile}
+use Rattle.version.specs.Store.{entrySize, storeNeeds, noFile}
 use Rattle.version.specs.declared.index.VersionIndex.{VersionIndex}
 use Rattle.version.specs.declared.store.Part.{Part}
 use Rattle.version.specs.declared.store.Version.{Version}

@@ -7,7 +7,7 @@ pub struct VersionIndex(pub u16);
 
 impl VersionIndex {
     // 0 and 1, local and global, name no version.
-    pub(crate) fn is_special(self) -> bool
+    pub fn is_special(self) -> bool
         ensures { λ r. ⌜ r ≡ isSpecial self ⌝ }
     {
         self.0 <= 1

@@ -8,12 +8,12 @@ use export::kinds::order_of;
 use libc::STDIN_FILENO;
 use libc::STDOUT_FILENO;
 use symbol::table::SymbolIndex;
-use version::parse::Parsed;
-use version::parse::parse;
 use version::table::Need;
 use version::table::VersymAt;
 use version::table::matches;
 use version::table::version_of;
+use version_parse::parse::Parsed;
+use version_parse::parse::parse;
 
 const RECORD: usize = 288;
 

@@ -1,0 +1,53 @@
+-- `export_segments::fetulombo_segment_count` meets its contract. Each arm is told what was counted. Assumes nothing.
+use mathlib.Core.Path.{sym, ap, _∙_}
+use borrow.Author.Needs.{needs}
+use Rattle.export_segments.specs.Answers.{countAnswer}
+use Rattle.export_segments.proofs.fetulombo_segment_count.Statement.{statement}
+use Rattle.export_segments.proofs.fetulombo_segment_count.Tie as tie
+
+class-of-requires : tie.Need-class-of-requires
+class-of-requires c κs = search needs
+
+segment-count-requires : tie.Need-segment-count-requires
+segment-count-requires c κs = search needs
+
+enum-known-count : tie.Need-enum-known-count
+enum-known-count c = search needs
+
+cast-number-answer : tie.Need-cast-number-answer
+cast-number-answer c = search needs
+
+number-answer-requires : tie.Need-number-answer-requires
+number-answer-requires c κs = search needs
+
+enum-known-refusal : tie.Need-enum-known-refusal
+enum-known-refusal c = search needs
+
+no-number-requires : tie.Need-no-number-requires
+no-number-requires c κs = search needs
+
+returns : tie.Need-returns
+returns c =
+    let called = c .before .before .before .before in
+    let found = rw (called .before .class-of .ensures) at (called .segment-count .ensures) in
+    c .number-answer .ensures ∙ ap countAnswer (sym (c .before .before .count .given .1) ∙ found)
+
+returns-2 : tie.Need-returns-2
+returns-2 c =
+    let called = c .before .before .before .before in
+    let found = rw (called .before .class-of .ensures) at (called .segment-count .ensures) in
+    c .no-number .ensures ∙ ap countAnswer (sym (c .before .before .refusal .given .1) ∙ found)
+
+pub fetulombo-segment-count-spec : {M : Type 1} → statement M
+fetulombo-segment-count-spec =
+    tie.close
+    (tie.spec
+    class-of-requires
+    segment-count-requires
+    enum-known-count
+    cast-number-answer
+    number-answer-requires
+    enum-known-refusal
+    no-number-requires
+    returns
+    returns-2)

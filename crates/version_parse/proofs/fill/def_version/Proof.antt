@@ -1,0 +1,117 @@
+-- `version_parse::fill::def_version` meets its contract. Two binds, by what the two calls say. Assumes nothing.
+use Prim.Native.Nat.{ℕ}
+use mathlib.Core.Path.{_≡_, sym, ap, _∙_}
+use mathlib.Core.List.{List}
+use native.Mathlib.Nat.{add-zero}
+use Rattle.endian.specs.declared.kinds.Order.{Order}
+use Rattle.endian.specs.Refusals.{badVerdauxName}
+use Rattle.endian.specs.Word.{wordAt, fieldAt}
+use Rattle.version_parse.specs.Layouts.{verdaux}
+use Rattle.version_parse.specs.Outcome.Outcome.{fine, stop}
+use Rattle.version_parse.specs.Records.{verdauxShape, auxAt, auxOutcome, auxRefusal}
+use Rattle.version.specs.Store.{noFile}
+use Rattle.version_parse.specs.Entries.{defVersion, partAt, partOutcome}
+use Rattle.version_parse.specs.declared.records.Aux.{Aux}
+use Rattle.version.specs.declared.store.Version.{Version}
+use Rattle.version_parse.proofs.Outcomes.{bind-fine, bind-stop}
+use borrow.Author.Needs.{needs}
+use Rattle.version_parse.proofs.fill.def_version.Statement.{statement}
+use Rattle.version_parse.proofs.fill.def_version.Tie as tie
+
+-- where the name has been looked for
+module _ (k : tie.After-part-at) where
+  abbrev read : tie.After-step
+  read = k .before .before .before
+
+  abbrev start : tie.Start
+  start = read .before .before .before .before .before
+
+  abbrev order : Order
+  order = start .args .order
+
+  abbrev s : List ℕ
+  s = start .args .s .now
+
+  abbrev a : Aux
+  a = read .step .given .0 .0
+
+  aux-read : auxAt verdauxShape order s (start .args .def .aux) ≡ fine a
+  aux-read = sym (read .before .before .aux-at .ensures) ∙ ap auxOutcome (read .step .given .1)
+
+  name-read : partAt badVerdauxName (start .args .strings .now) (fieldAt order s (a .at) (verdaux .name))
+      ≡ partOutcome (k .part-at .result)
+  name-read =
+      ap (partAt badVerdauxName (start .args .strings .now))
+      (ap (wordAt order 4 s) (add-zero (a .at)) ∙ sym (k .before .u32-at .ensures))
+      ∙ sym (k .part-at .ensures)
+
+aux-at-requires : tie.Need-aux-at-requires
+aux-at-requires c κs = search needs
+
+enum-known-step : tie.Need-enum-known-step
+enum-known-step c = search needs
+
+enum-told : tie.Need-enum-told
+enum-told c = search needs
+
+aux-refusal-requires : tie.Need-aux-refusal-requires
+aux-refusal-requires c κs = search needs
+
+returns : tie.Need-returns
+unfolding defVersion
+returns c =
+    let called = c .before .before .before in
+    let told = c .before .enum-told .given .1 in
+    sym (bind-stop _ _ _
+    (sym (called .aux-at .ensures) ∙ ap auxOutcome told ∙ ap stop (sym (c .aux-refusal .ensures ∙ ap auxRefusal told))))
+
+u32-at-requires : tie.Need-u32-at-requires
+u32-at-requires c κs = search needs
+
+part-at-requires : tie.Need-part-at-requires
+part-at-requires c κs = search needs
+
+enum-known-refusal : tie.Need-enum-known-refusal
+enum-known-refusal c = search needs
+
+enum-known-name : tie.Need-enum-known-name
+enum-known-name c = search needs
+
+add-u32-at : tie.Need-add-u32-at
+add-u32-at c = search needs
+
+u32-at-requires-2 : tie.Need-u32-at-requires-2
+u32-at-requires-2 c κs = search needs
+
+returns-2 : tie.Need-returns-2
+unfolding defVersion
+returns-2 c =
+    let k = c .before .before .before in
+    sym (bind-fine _ _ _ (aux-read k) ∙ bind-stop _ _ _ (name-read k ∙ ap partOutcome (c .before .refusal .given .1)))
+
+returns-3 : tie.Need-returns-3
+unfolding defVersion
+returns-3 c =
+    let named = c .before .before .before in
+    let k = named .before .before in
+    let made : ℕ → Version = λ h. record { kind = 1; hash = h; name = named .name .given .0 .0; file = noFile } in
+    ap (λ (h : ℕ). fine (made h)) (c .u32-at2 .ensures)
+    ∙ sym (bind-fine _ _ _ (aux-read k) ∙ bind-fine _ _ _ (name-read k ∙ ap partOutcome (named .name .given .1)))
+
+pub def-version-spec : {M : Type 1} → statement M
+def-version-spec =
+    tie.close
+    (tie.spec
+    aux-at-requires
+    enum-known-step
+    enum-told
+    aux-refusal-requires
+    returns
+    u32-at-requires
+    part-at-requires
+    enum-known-refusal
+    enum-known-name
+    add-u32-at
+    u32-at-requires-2
+    returns-2
+    returns-3)

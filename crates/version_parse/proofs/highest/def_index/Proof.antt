@@ -1,0 +1,18 @@
+-- `version_parse::highest::def_index` meets its contract. Assumes nothing.
+use Prim.Native.Nat.{ℕ}
+use mathlib.Core.Path.{ap}
+use borrow.Author.Needs.{needs}
+use Rattle.version_parse.proofs.highest.def_index.Statement.{statement}
+use Rattle.version_parse.proofs.highest.def_index.Tie as tie
+
+add-u16-at : tie.Need-add-u16-at
+add-u16-at c = search needs
+
+u16-at-requires : tie.Need-u16-at-requires
+u16-at-requires c κs = search needs
+
+returns : tie.Need-returns
+returns c = ap (λ (n : ℕ). record { 0 = n }) (c .u16-at .ensures)
+
+pub def-index-spec : {M : Type 1} → statement M
+def-index-spec = tie.close (tie.spec add-u16-at u16-at-requires returns)

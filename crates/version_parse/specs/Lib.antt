@@ -1,0 +1,8 @@
+pub mod Entries
+pub mod Highest
+pub mod Layouts
+pub mod Outcome
+pub mod Parse
+pub mod Records
+pub mod Room
+pub mod Walk

@@ -1,0 +1,30 @@
+-- A store of n numbers has room for what the records of a list store.
+--     All                          what holds of every record of a walk
+--     DefRoom, AuxRoom, NeedRoom   room for a definition, a needed version, a need
+-- Assumes nothing.
+use Prim.Native.Nat.{ℕ, _≤_}
+use mathlib.Core.Path.{_≡_}
+use mathlib.Core.List.{List}
+use mathlib.Core.Bool.{false}
+use Rattle.endian.specs.declared.kinds.Order.{Order}
+use Rattle.version_parse.specs.Walk.{Walk}
+use Rattle.version_parse.specs.Walk.Walk.{end, broken, more}
+use Rattle.version_parse.specs.Records.{vernauxs}
+use Rattle.version_parse.specs.Highest.{isBase, defIndex, needIndex, needCount}
+use Rattle.version.specs.Store.{storeNeeds}
+use Rattle.version_parse.specs.declared.records.Record.{Record}
+use Rattle.version_parse.specs.declared.records.Aux.{Aux}
+
+abbrev pub All : {A : Type 0} → (A → Type 0) → Walk A → Type 0
+All P end = Unit {0}
+All P (broken e) = Unit {0}
+All P (more a w) = P a × All P w
+
+abbrev pub DefRoom : Order → List ℕ → (n : ℕ) → Record → Type 0
+DefRoom order s n d = isBase order s d ≡ false → storeNeeds (defIndex order s d) ≤ n
+
+abbrev pub AuxRoom : Order → List ℕ → (n : ℕ) → Aux → Type 0
+AuxRoom order s n a = storeNeeds (needIndex order s a) ≤ n
+
+abbrev pub NeedRoom : Order → List ℕ → (n : ℕ) → Record → Type 0
+NeedRoom order s n r = All (AuxRoom order s n) (vernauxs order s (needCount order s r) (r .aux))
