@@ -161,6 +161,17 @@ typedef struct {
     uint64_t probes;
 } fetulombo_lookup;
 
+/* What a checker says. accepted is 1 or 0; a table that is not accepted breaks a rule: rule is the number of
+ * the first, and place its lowest symbol or bucket, or 0. longest is, of an accepted GNU table, the most
+ * hashed symbols in one bucket. */
+typedef struct {
+    uint32_t refusal;
+    uint32_t accepted;
+    uint32_t rule;
+    uint32_t place;
+    uint64_t longest;
+} fetulombo_check;
+
 /* The length of the symbol table; known is 0 where a table says nothing of it. */
 typedef struct {
     uint64_t refusal;
@@ -333,6 +344,28 @@ fetulombo_length fetulombo_gnu_length(uint8_t table_class, uint8_t order, const 
 
 /* The length of the symbol table as a SysV table says it. Refused as fetulombo_sysv_find. */
 fetulombo_number fetulombo_sysv_length(uint8_t order, const uint8_t *table, size_t table_length);
+
+/* Checks a GNU table against its symbols and their names, by the rules G1 to G10:
+ *   1 the first hashed symbol is one of 1 to n, n the symbols; 2 the bloom words are a power of two;
+ *   3 there is a bucket; 4 the bloom shift is at most 31; 5 each hashed symbol has a value;
+ *   6 its name can be read; 7 its value is the name's hash but for the low bit; 8 both its bloom bits are set;
+ *   9 each bucket holds its lowest symbol, or 0 without one, and its symbols are consecutive;
+ *   10 the low bit of a value is 1 exactly at a bucket's last symbol.
+ * In an accepted table a lookup with the name's own GNU hash finds exactly the lowest hashed symbol that
+ * matches, in at most longest probes. place is a symbol (6 to 8, 10) or a bucket (9). Refused as
+ * fetulombo_gnu_base, over all three parts. */
+fetulombo_check fetulombo_gnu_check(uint8_t table_class, uint8_t order, const uint8_t *table,
+                                    size_t table_length, const uint8_t *symbols, size_t symbols_length,
+                                    const uint8_t *strings, size_t strings_length);
+
+/* Checks a SysV table, by the rules T1 to T3: 1 there are symbols, as many chains, and a bucket; 2 the names
+ * of all symbols but the first can be read; 3 each chain ends in 0, and each symbol but the first stands on
+ * exactly one chain, once, that of its hash. In an accepted table a lookup with the name's own SysV hash
+ * finds a symbol exactly if one matches. place and longest are 0. Refused as fetulombo_sysv_length, over all
+ * three parts. */
+fetulombo_check fetulombo_sysv_check(uint8_t table_class, uint8_t order, const uint8_t *table,
+                                     size_t table_length, const uint8_t *symbols, size_t symbols_length,
+                                     const uint8_t *strings, size_t strings_length);
 
 /* Types of segments: PT_LOAD, PT_DYNAMIC, PT_INTERP, PT_NOTE. */
 #define FETULOMBO_SEGMENT_LOAD 1

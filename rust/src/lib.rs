@@ -4,6 +4,7 @@
 //! definitions say. Every function takes any bytes, and answers or refuses by number. What is
 //! found in a lent slice is answered as a part of that slice.
 
+mod check;
 mod hash;
 mod lookup;
 mod note;
@@ -15,6 +16,7 @@ mod symbol;
 mod version;
 mod word;
 
+pub use check::{GnuVerdict, SysvVerdict};
 pub use hash::{gnu_hash, sysv_hash};
 pub use lookup::{Found, GnuTable, Symbols, SysvTable, Wanted};
 pub use note::{

@@ -90,6 +90,15 @@ pub struct Lookup {
 }
 
 #[repr(C)]
+pub struct Check {
+    pub refusal: u32,
+    pub accepted: u32,
+    pub rule: u32,
+    pub place: u32,
+    pub longest: u64,
+}
+
+#[repr(C)]
 pub struct Length {
     pub refusal: u64,
     pub known: u64,
@@ -145,6 +154,7 @@ const _: () = assert!(size_of::<Version>() == 32);
 const _: () = assert!(size_of::<Versym>() == 24);
 const _: () = assert!(size_of::<Lookup>() == 24);
 const _: () = assert!(size_of::<Length>() == 24);
+const _: () = assert!(size_of::<Check>() == 24);
 const _: () = assert!(size_of::<Segment>() == 64);
 const _: () = assert!(size_of::<SegmentMeaning>() == 32);
 const _: () = assert!(size_of::<Part>() == 32);
@@ -333,6 +343,26 @@ unsafe extern "C" {
     pub fn fetulombo_gnu_base(class: u8, order: u8, table: *const u8, length: usize) -> Number;
     pub fn fetulombo_gnu_length(class: u8, order: u8, table: *const u8, length: usize) -> Length;
     pub fn fetulombo_sysv_length(order: u8, table: *const u8, length: usize) -> Number;
+    pub fn fetulombo_gnu_check(
+        class: u8,
+        order: u8,
+        table: *const u8,
+        table_length: usize,
+        symbols: *const u8,
+        symbols_length: usize,
+        strings: *const u8,
+        strings_length: usize,
+    ) -> Check;
+    pub fn fetulombo_sysv_check(
+        class: u8,
+        order: u8,
+        table: *const u8,
+        table_length: usize,
+        symbols: *const u8,
+        symbols_length: usize,
+        strings: *const u8,
+        strings_length: usize,
+    ) -> Check;
     pub fn fetulombo_segment_count(class: u8, table: *const u8, length: usize) -> Number;
     pub fn fetulombo_segment_at(
         class: u8,
