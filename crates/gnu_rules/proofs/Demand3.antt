@@ -139,9 +139,10 @@ module _ (class : Class) (order : Order) (p : Parts) (asked : Asked) where
     found-lowest i here =
         record {
           not-refused = λ r. found-refused _ _ r;
-          found = λ k.
-              ((λ h. subst (LowestMatch class order p asked) (found-symbol i k probes probes h) here),
-              λ l. ap (λ j. Found (symbolIndex j) probes) (lowest-one i k here l));
+          found = λ k. (
+            (λ h. subst (LowestMatch class order p asked) (found-symbol i k probes probes h) here),
+            λ l. ap (λ j. Found (symbolIndex j) probes) (lowest-one i k here l),
+          );
           missing = ((λ h. absurd (found-missing _ _ _ h)), λ h. absurd (h i (here .from-base) (here .below-n) (here .matches)));
           few = few;
         }
