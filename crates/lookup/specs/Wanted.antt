@@ -4,7 +4,7 @@
 --     allParts      every part and every name that a lookup is lent
 --     nameOf        the bytes of a symbol's name, or none where there is no such symbol or its name cannot be read
 --     isNamed       whether that is a name; one that cannot be read never is
---     wanted        whether a symbol has the name and the version that are asked for
+--     wanted        whether a symbol has the name and the version that are asked for; `wantedIn` of the parts that this looks at
 --     unlessFault   an answer, unless the table's places are refused
 --     walk          the first match on a list of numbers, and how many of them were tested
 -- Assumes nothing.
@@ -62,14 +62,14 @@ abbrev pub isNamed : List ℕ → Option (List ℕ) → Bool
 isNamed name none = false
 isNamed name (some n) = same n name
 
--- the version of a symbol is the one that is needed
-abbrev pub fits : Order → Parts → Asked → ℕ → Bool
-fits order p asked i =
-    matching order (p .versyms) (p .store) (p .versionStrings) (symbolIndex i) (asked .need) (asked .needName)
+unfoldable pub wantedIn : Class → Order → (symbols strings versyms store versionStrings : List ℕ) → Asked → ℕ → Bool
+wantedIn class order symbols strings versyms store versionStrings asked i =
+    isNamed (asked .name) (nameOf class order symbols strings i)
+    && matching order versyms store versionStrings (symbolIndex i) (asked .need) (asked .needName)
 
-unfoldable pub wanted : Class → Order → Parts → Asked → ℕ → Bool
-wanted class order p asked i =
-    isNamed (asked .name) (nameOf class order (p .symbols) (p .strings) i) && fits order p asked i
+abbrev pub wanted : Class → Order → Parts → Asked → ℕ → Bool
+wanted class order p asked =
+    wantedIn class order (p .symbols) (p .strings) (p .versyms) (p .store) (p .versionStrings) asked
 
 -- a symbol, or none, after so many probes
 abbrev pub answerOf : Option ℕ → ℕ → Answer

@@ -1,3 +1,5 @@
--- `Comparing`: the steps of a comparison while reading. `Meaning`: what a comparison decides.
-pub mod Meaning
+-- `Meaning` and `Readable` are for whoever cites this crate: what a comparison decides, and which strings can be read.
+-- `Comparing`: the steps of a comparison while reading.
 mod Comparing
+pub mod Meaning
+pub mod Readable

@@ -1,10 +1,11 @@
 -- A string of a string table: it runs from its offset to the next zero byte (01, module 1; gABI, "String Table").
 --     isZero, readable    of the bytes from the offset on: which ends the string, and whether there is one
+--     afterZero           the place after the last zero byte, or 0
 --     stringAt            the string at an offset, as a place
 --     same                two lists are equal
 --     stringEquals        whether the string at an offset can be read and is the name
 -- Assumes nothing.
-use Prim.Native.Nat.{ℕ}
+use Prim.Native.Nat.{ℕ, suc}
 use mathlib.Core.Bool.{Bool, true, false, cond}
 use mathlib.Core.List.{List, [], _∷_}
 use lib.Dec.{eqb, ltb}
@@ -19,6 +20,11 @@ isZero b = eqb b 0
 
 unfoldable pub readable : List ℕ → Bool
 readable rest = ltb (first isZero rest) (length rest)
+
+-- every string that can be read starts below it
+unfoldable pub afterZero : List ℕ → ℕ
+afterZero [] = 0
+afterZero (b ∷ s) = cond (ltb 0 (afterZero s)) (suc (afterZero s)) (cond (isZero b) 1 0)
 
 abbrev pub stringAt : List ℕ → ℕ → StringAt
 stringAt strings offset =

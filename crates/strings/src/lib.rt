@@ -4,7 +4,7 @@ use endian::refusals::NO_STRING;
 use endian::refusals::Refusal;
 use endian::refusals::TOO_LONG;
 ghost use mathlib.Core.Path.{_≡_};
-ghost use Rattle.strings.specs.Strings.{stringAt, stringEquals};
+ghost use Rattle.strings.specs.Strings.{afterZero, stringAt, stringEquals};
 
 // A part of the lent strings, without its zero.
 pub enum StringAt {
@@ -59,4 +59,18 @@ pub fn string_equals(strings: &[u8], offset: u32, name: &[u8]) -> bool
         }
     }
     strings[start + name.len()] == 0
+}
+
+// The place after the last zero byte, or 0: a string can be read exactly if it starts below it.
+pub fn after_last_zero(strings: &[u8]) -> usize
+    ensures { λ r. ⌜ r ≡ afterZero (now (strings .entry)) ⌝ }
+{
+    let mut n = strings.len();
+    while 0 < n {
+        if strings[n - 1] == 0 {
+            return n;
+        }
+        n -= 1;
+    }
+    0
 }

@@ -1,3 +1,3 @@
 -- `Names`: the name of a symbol. `Size`: the records of either class.
-mod Names
+pub mod Names
 pub mod Size
