@@ -19,7 +19,7 @@ use Rattle.endian.specs.declared.kinds.Order.{Order}
 use Rattle.endian.specs.declared.refusals.Refusal.{Refusal}
 use Rattle.endian.specs.Refusals.{limit, anyLong}
 use Rattle.endian.specs.Word.{wordAt}
-use Rattle.strings.proofs.Meaning.{same-refl, false-true}
+use Rattle.strings.proofs.Meaning.{same-refl}
 use Rattle.name_hash.specs.Hash.{gnuHash}
 use Rattle.symbol.specs.declared.table.SymbolIndex.{SymbolIndex}
 use Rattle.symbol.specs.Table.{symbolSize}
@@ -27,8 +27,9 @@ use Rattle.version.specs.Table.{matching}
 use Rattle.lookup.specs.declared.Answer.{Answer}
 use Rattle.lookup.specs.declared.Answer.the-variants.{Found, Missing, Refused}
 use Rattle.lookup.specs.Pick.{from, firstOf}
-use Rattle.lookup.specs.Wanted.{Parts, Asked, nameOf, symbolIndex, isNamed, fits, wanted, answerOf}
-use Rattle.lookup.proofs.Picking.{from-all, none-firstOf, firstOf-lowest, Lowest, by-test, and-left, and-right}
+use Rattle.lookup.specs.Wanted.{Parts, Asked, nameOf, symbolIndex, wanted, wantedIn, answerOf}
+use Rattle.lookup.proofs.Distinct.{wanted-named, wanted-fits}
+use Rattle.lookup.proofs.Picking.{from-all, none-firstOf, firstOf-lowest, Lowest, by-test}
 use Rattle.gnu.specs.Table.{hashed}
 use Rattle.gnu.specs.Layout.{fault}
 use Rattle.gnu.specs.Find.{gnuTable, gnuFind}
@@ -36,7 +37,7 @@ use Rattle.gnu_rules.specs.declared.Checked.{Checked}
 use Rattle.gnu_rules.specs.declared.Checked.the-variants.{Accepted, Refused as Checked·Refused}
 use Rattle.gnu_rules.specs.Rules.{check, unlessRefused, gnuCheck}
 use Rattle.gnu_rules.proofs.Kept.{rules, accepted-longest}
-use Rattle.gnu_rules.proofs.Finds.{FindsLowest, finds-lowest, is-name}
+use Rattle.gnu_rules.proofs.Finds.{FindsLowest, finds-lowest}
 
 -- ---- the statement
 
@@ -104,16 +105,10 @@ module _ (class : Class) (order : Order) (p : Parts) (asked : Asked) where
   want = wanted class order p asked
 
   wanted-matches : (k : ℕ) → want k ≡ true → Matches class order p asked k
-  unfolding wanted
-  wanted-matches k h =
-      let name = nameOf class order (p .symbols) (p .strings) k in
-      record {
-        name = is-name (asked .name) name (and-left (isNamed (asked .name) name) (fits order p asked k) h);
-        version = and-right (isNamed (asked .name) name) (fits order p asked k) h;
-      }
+  wanted-matches k h = record { name = wanted-named class order p asked k h; version = wanted-fits class order p asked k h }
 
   not-wanted : (k : ℕ) → want k ≡ false → ¬ Matches class order p asked k
-  unfolding wanted
+  unfolding wantedIn
   not-wanted k h m =
       let yes : want k ≡ true = rw (m .name, same-refl (asked .name)) (m .version) in
       true≢false (sym yes ∙ h)
@@ -202,7 +197,7 @@ demand-3 class order p most accepted asked short =
     let a = accept class order p most accepted in
     let t = gnuTable class order p in
     let kept = rules t most (a .table) in
-    let f = finds-lowest t kept (asked .name) (wanted class order p asked) (λ i h. wanted-matches class order p asked i h .name) in
+    let f = finds-lowest t kept (asked .name) (wanted class order p asked) (wanted-named class order p asked) in
     rw (all-short (p .table ∷ p .symbols ∷ p .strings ∷ []) _ (a .short) short, a .header, f .answer)
     (by-first class order p asked most (f .probes) (subst (λ m. f .probes ≤ m) (accepted-longest t most (a .table)) (f .few))
     (kept .base-high) (firstOf (wanted class order p asked) (hashed t)) refl)

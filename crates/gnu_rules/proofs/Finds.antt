@@ -10,12 +10,11 @@ use native.Mathlib.Omega.{arith}
 use native.Mathlib.Nat.{mod-lt}
 use lib.ListN.{length}
 use borrow.Author.Tests.{eqb-true, eq-eqb, ne-eqb, le-leb, le-ltb}
-use Rattle.strings.proofs.Meaning.{same-true}
 use Rattle.name_hash.specs.Hash.{gnuHash}
 use Rattle.lookup.specs.declared.Answer.{Answer}
 use Rattle.lookup.specs.declared.Answer.the-variants.{Missing}
 use Rattle.lookup.specs.Pick.{from, firstOf, upTo}
-use Rattle.lookup.specs.Wanted.{isNamed, answerOf, walk}
+use Rattle.lookup.specs.Wanted.{answerOf, walk}
 use Rattle.lookup.proofs.Picking.{all-map, all-from, all-select, firstOf-none, firstOf-select, firstOf-cong, length-upTo, upTo-from, largest-le, by-test, and-left, and-right, beq-eq, test-ext}
 use Rattle.gnu.specs.Table.{Table, hashed, valueOf, odd, sameButLow, bloomFirst, bloomSecond, chain, starts, bloomFilter, startOf, walkAt, lookup}
 use Rattle.gnu_rules.specs.Rules.{hashOf, inBucket, members, holds, longest}
@@ -27,10 +26,6 @@ pub record FindsLowest (t : Table) (wanted : ℕ → Bool) (a : Answer) : Type 0
   pub probes : ℕ
   pub answer : a ≡ answerOf (firstOf wanted (hashed t)) probes
   pub few : probes ≤ longest t
-
-pub is-name : (name : List ℕ) (o : Option (List ℕ)) → isNamed name o ≡ true → o ≡ some name
-is-name name none h = cc
-is-name name (some n) h = ap (λ x. some x) (same-true n name h)
 
 module _ (t : Table) (r : Rules t) where
   -- the chain of a bucket that has symbols
