@@ -2,8 +2,9 @@
 --     highest      the highest bucket value
 --     lengthOf     the length that a table gives, or none
 --     gnuLength    the same of the bytes, as an answer
+--     highestOf, lengthFrom    the highest bucket value, and the length from a symbol on, of places in the bytes
 -- Assumes nothing.
-use Prim.Native.Nat.{ℕ, _+_, _-_, _^_}
+use Prim.Native.Nat.{ℕ, _+_, _-_, _*_, _^_}
 use mathlib.Core.Bool.{cond, _||_}
 use mathlib.Core.List.{List, [], map}
 use mathlib.Core.Option.{Option, some, none}
@@ -13,6 +14,7 @@ use Rattle.endian.specs.declared.kinds.Class.{Class}
 use Rattle.endian.specs.declared.kinds.Order.{Order}
 use Rattle.endian.specs.declared.refusals.Refusal.{Refusal}
 use Rattle.endian.specs.Refusals.{limit, tooLong}
+use Rattle.endian.specs.Word.{wordAt}
 use Rattle.lookup.specs.Pick.{from, firstOf, largest}
 use Rattle.gnu.specs.declared.length.TableLength.{TableLength}
 use Rattle.gnu.specs.declared.length.TableLength.the-variants.{Symbols, Nothing, Refused}
@@ -42,3 +44,10 @@ unfoldable pub gnuLength : Class → Order → (table : List ℕ) → TableLengt
 gnuLength class order table =
     cond (ltb limit (length table)) (Refused tooLong)
     (lengthAnswer (fault class order table) (lengthOf (tableOf class order table [] [])))
+
+abbrev pub highestOf : Order → (table : List ℕ) → (bucketsAt bucketCount : ℕ) → ℕ
+highestOf order table bucketsAt bucketCount = largest (map (λ b. wordAt order 4 table (bucketsAt + b * 4)) (from 0 bucketCount))
+
+abbrev pub lengthFrom : Order → (table : List ℕ) → (valuesAt base start end : ℕ) → TableLength
+lengthFrom order table valuesAt base start end =
+    lengthAnswer none (numberAfter (firstOf (λ i. odd (wordAt order 4 table (valuesAt + (i - base) * 4))) (from start (end - start))))

@@ -1,0 +1,42 @@
+// Where the walk of a hash starts.
+use super::header::Layout;
+use endian::kinds::Class;
+use endian::kinds::Order;
+use endian::words::u32_at;
+ghost use mathlib.Core.Path.{_≡_};
+ghost use Rattle.gnu.specs.Table.{startOf};
+ghost use Rattle.gnu.specs.Header.{tableAt};
+
+// The first symbol of the hash's bucket, or 0 where there is no bucket, or its value is 0, past the
+// symbols, below symbol_base or past the values.
+pub(crate) fn start_of(
+    class: Class,
+    order: Order,
+    table: &[u8],
+    layout: Layout,
+    count: u32,
+    hash: u32,
+) -> u32
+    ensures { λ r. ⌜ r ≡ startOf (tableAt class order (now (table .entry)) layout count) hash ⌝ }
+{
+    let bucket_count = layout.bucket_count;
+    if bucket_count == 0 {
+        return 0;
+    }
+    let buckets_at = layout.buckets_at as usize;
+    let start = u32_at(
+        order,
+        table,
+        buckets_at + (hash % bucket_count) as usize * 4,
+    );
+    if count < start {
+        return 0;
+    }
+    if start < layout.symbol_base {
+        return 0;
+    }
+    if layout.value_count < start - layout.symbol_base {
+        return 0;
+    }
+    start
+}
