@@ -52,7 +52,8 @@ lowest-hashed : (t : Table) (g : ℕ → Bool) → lowest g (hashed t) ≡ none 
 lowest-hashed t g h i lo hi = lowest-none g (t .base) (t .count - t .base) h i lo (omega arith)
 
 -- a power of two is at least 1
-power-low : (n : ℕ) → powerOfTwo n ≡ true → 1 ≤ n
+pub power-low : (n : ℕ) → powerOfTwo n ≡ true → 1 ≤ n
+unfolding powerOfTwo
 power-low n h = go (firstOf (λ k. eqb n (2 ^ k)) (from 0 32)) refl h
   where
     go : (o : Option ℕ) → firstOf (λ k. eqb n (2 ^ k)) (from 0 32) ≡ o → not (isNone o) ≡ true → 1 ≤ n

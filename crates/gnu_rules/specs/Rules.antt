@@ -53,7 +53,7 @@ module _ (t : Table) where
   baseWithin = leb 1 (t .base) && leb (t .base) (t .count)
 
 -- one of 2 ^ 0 to 2 ^ 31: a count has 32 bits
-abbrev pub powerOfTwo : ℕ → Bool
+unfoldable pub powerOfTwo : ℕ → Bool
 powerOfTwo n = not (isNone (firstOf (λ k. eqb n (2 ^ k)) (from 0 32)))
 
 -- what a bucket of these symbols holds: 0 if it has no symbol, else its lowest; and its symbols are consecutive
