@@ -1,0 +1,7 @@
+mod Chained
+mod Counted
+mod Counting
+mod Following
+mod Passes
+mod Readings
+mod Ruled
