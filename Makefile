@@ -8,7 +8,7 @@
 ORACLE ?= ../shared/oracle
 CARGO := cargo
 # The crates with the exported functions, one for each module.
-EXPORTS := words strings symbols hashes notes versions lookups segments
+EXPORTS := words strings symbols hashes notes versions lookups checks segments
 ARCHIVE := target/staticlib/libfetulombo.a
 OBJECTS := target/archive
 COMPARE := compare/target/release/compare

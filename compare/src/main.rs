@@ -8,6 +8,7 @@
 //! programs read, below FOLDER (the repository's crates/), and compares nothing. `--cost` times both
 //! on the inputs that cost version parsing the most, and compares nothing else.
 
+mod checks;
 mod cost;
 mod hashes;
 mod inputs;
@@ -72,6 +73,7 @@ fn main() -> ExitCode {
     notes::compare(&mut run);
     versions::compare(&mut run);
     lookups::compare(&mut run);
+    checks::compare(&mut run);
     segments::compare(&mut run);
     run.report.print();
     if run.report.differences() == 0 {

@@ -1,0 +1,212 @@
+//! The checkers, which the original lacks, against the plain ones; and what an accepted table
+//! promises of a lookup, against the original's lookups.
+
+use crate::Run;
+use crate::inputs::{KINDS, big, is64};
+use crate::lookups::{Asked, ask, rehashed, versions_of};
+use crate::plain::Verdict;
+use crate::report::{Answer, hex};
+use crate::tables::{
+    GnuShape, Symbols, damaged_words, gnu_table, made_up, of_library, sysv_table, turned,
+};
+use fetulombo::{
+    Class, GnuTable, GnuVerdict, LIMIT, Order, Symbols as OurSymbols, SysvTable, SysvVerdict,
+};
+
+pub fn compare(run: &mut Run) {
+    for turn in 0..120_000 * run.scale {
+        let (class, order) = KINDS[turn % 4];
+        let shape = GnuShape::random(&mut run.random);
+        let made = made_up(&mut run.random, class, order, shape.buckets, shape.base);
+        let mut gnu = gnu_table(&made, shape);
+        let mut sysv = sysv_table(&made, shape.buckets as usize);
+        if turn % 3 != 0 {
+            gnu = damaged_words(&mut run.random, order, &gnu);
+            sysv = damaged_words(&mut run.random, order, &sysv);
+        }
+        gnu_check(run, &made, &gnu);
+        sysv_check(run, &made, &sysv);
+        if turn % 4 == 0 {
+            let asked = ask(&mut run.random);
+            promised(run, &made, &gnu, &sysv, &asked);
+        }
+    }
+    limits(run);
+    libraries(run);
+}
+
+fn ours(made: &Symbols) -> OurSymbols<'_> {
+    OurSymbols {
+        symbols: &made.symbols,
+        strings: &made.strings,
+    }
+}
+
+const RULES: [&str; 11] = [
+    "accepted", "G1", "G2", "G3", "G4", "G5", "G6", "G7", "G8", "G9", "G10",
+];
+
+pub fn gnu_verdict(made: &Symbols, table: &[u8]) -> Answer<Verdict> {
+    GnuTable::parse(made.class, made.order, table)
+        .and_then(|table| table.check(ours(made)))
+        .map(|verdict| match verdict {
+            GnuVerdict::Accepted { longest } => Verdict::Accepted(longest),
+            GnuVerdict::Broken { rule, place } => Verdict::Broken(rule.into(), place),
+        })
+        .map_err(|refusal| refusal.number())
+}
+
+pub fn sysv_verdict(made: &Symbols, table: &[u8]) -> Answer<Verdict> {
+    SysvTable::parse(made.class, made.order, table)
+        .and_then(|table| table.check(ours(made)))
+        .map(|verdict| match verdict {
+            SysvVerdict::Accepted => Verdict::Accepted(0),
+            SysvVerdict::Broken { rule } => Verdict::Broken(rule.into(), 0),
+        })
+        .map_err(|refusal| refusal.number())
+}
+
+fn text(made: &Symbols, table: &[u8]) -> String {
+    format!(
+        "{:?} {:?} table {} symbols {} strings {}",
+        made.class,
+        made.order,
+        hex(table),
+        hex(&made.symbols),
+        hex(&made.strings)
+    )
+}
+
+fn gnu_check(run: &mut Run, made: &Symbols, table: &[u8]) {
+    run.report.same(
+        "gnu check, plain rules",
+        gnu_verdict(made, table),
+        made.plain(table).gnu_check(),
+        |verdict| match verdict {
+            Verdict::Accepted(_) => RULES[0],
+            Verdict::Broken(rule, _) => RULES[*rule as usize],
+        },
+        || text(made, table),
+    );
+}
+
+fn sysv_check(run: &mut Run, made: &Symbols, table: &[u8]) {
+    run.report.same(
+        "sysv check, plain rules",
+        sysv_verdict(made, table),
+        made.plain(table).sysv_check(),
+        |verdict| match verdict {
+            Verdict::Accepted(_) => "accepted",
+            Verdict::Broken(1, _) => "T1",
+            Verdict::Broken(2, _) => "T2",
+            Verdict::Broken(_, _) => "T3",
+        },
+        || text(made, table),
+    );
+}
+
+/// Of an accepted table: the original finds the lowest hashed symbol that matches (GNU), or one
+/// exactly if one matches (SysV).
+fn promised(run: &mut Run, made: &Symbols, gnu: &[u8], sysv: &[u8], asked: &Asked) {
+    let plain = made.plain(gnu);
+    let (theirs, _) = versions_of(made);
+    let none = oracle::Versions::none(is64(made.class), big(made.order));
+    let theirs = theirs.as_ref().unwrap_or(&none);
+    let need = asked
+        .need
+        .as_ref()
+        .map(|(name, hash)| oracle::Need { name, hash: *hash });
+    let symbols = oracle::Symbols {
+        symbols: &made.symbols,
+        strings: &made.strings,
+    };
+    let matching = |symbol: &usize| {
+        plain.name(*symbol) == Some(&asked.name[..]) && theirs.matches(*symbol as u32, need)
+    };
+    let asked = rehashed(asked.clone());
+    let wanted = |hash| oracle::Wanted {
+        name: &asked.name,
+        hash,
+        need,
+    };
+    if let Ok(Verdict::Accepted(_)) = gnu_verdict(made, gnu) {
+        let table = oracle::gnu_parse(is64(made.class), big(made.order), gnu).unwrap();
+        let lowest = (table.symbol_base() as usize..plain.count()).find(matching);
+        let hash = crate::plain::gnu_hash(&asked.name);
+        run.report.same(
+            "accepted GNU table, the original's lookup",
+            Ok(lowest.map(|symbol| symbol as u32)),
+            Ok(table.find(symbols, theirs, wanted(hash))),
+            |found| found.map_or("none", |_| "the lowest"),
+            || text(made, gnu),
+        );
+    }
+    if let Ok(Verdict::Accepted(_)) = sysv_verdict(made, sysv) {
+        let table = oracle::sysv_parse(is64(made.class), big(made.order), sysv).unwrap();
+        let hash = crate::plain::sysv_hash(&asked.name);
+        let found = table.find(symbols, theirs, wanted(hash));
+        let any = (1..plain.count()).any(|symbol| matching(&symbol));
+        let right = found.map_or(!any, |symbol| matching(&(symbol as usize)));
+        run.report.same(
+            "accepted SysV table, the original's lookup",
+            Ok(right),
+            Ok(true),
+            |_| if any { "a match" } else { "none" },
+            || text(made, sysv),
+        );
+    }
+}
+
+/// Each part of exactly the limit and of one byte more.
+fn limits(run: &mut Run) {
+    let long = vec![0; LIMIT + 1];
+    for length in [LIMIT, LIMIT + 1] {
+        for which in 0..3 {
+            let lent = |k: usize| {
+                let length = if which == k { length } else { 16 };
+                long[..length].to_vec()
+            };
+            let made = Symbols {
+                class: Class::Elf64,
+                order: Order::Big,
+                symbols: lent(1),
+                strings: lent(2),
+                versions: Default::default(),
+            };
+            let table = lent(0);
+            gnu_check(run, &made, &table);
+            sysv_check(run, &made, &table);
+        }
+    }
+}
+
+/// Real tables, as they stand, damaged, and with big numbers.
+fn libraries(run: &mut Run) {
+    let libraries = std::mem::take(&mut run.libraries);
+    for library in &libraries {
+        let Some((made, gnu, sysv)) = of_library(library) else {
+            continue;
+        };
+        if made.plain(&[]).count() > 4_000 {
+            continue;
+        }
+        let mut tried = vec![(made.clone(), gnu.clone(), sysv.clone())];
+        if made.order == Order::Little {
+            tried.push(turned(&made, &gnu, &sysv));
+        }
+        for _ in 0..4 * run.scale {
+            let gnu = damaged_words(&mut run.random, made.order, &gnu);
+            let sysv = damaged_words(&mut run.random, made.order, &sysv);
+            tried.push((made.clone(), gnu, sysv));
+        }
+        for (made, gnu, sysv) in tried {
+            if !gnu.is_empty() {
+                gnu_check(run, &made, &gnu);
+            }
+            if !sysv.is_empty() {
+                sysv_check(run, &made, &sysv);
+            }
+        }
+    }
+    run.libraries = libraries;
+}
