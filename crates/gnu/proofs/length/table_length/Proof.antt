@@ -1,6 +1,6 @@
 -- `gnu::length::table_length` meets its contract. Each arm is told what `header` answered. Assumes nothing.
 use borrow.Author.Needs.{needs}
-use mathlib.Core.Path.{_≡_, sym, ap, _∙_}
+use mathlib.Core.Path.{sym, ap, _∙_}
 use Rattle.gnu.specs.declared.header.HeaderAt.{HeaderAt}
 use Rattle.gnu.specs.Header.{tableAt}
 use Rattle.gnu.specs.Length.{lengthOf}
