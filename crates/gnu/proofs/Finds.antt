@@ -1,7 +1,7 @@
 -- A lookup and a length by what was read of their parts.
---     filter-any              the bloom filter does not ask how many symbols there are
---     findFrom, find-from     the lookup, by whether a part that is only compared is too long, the symbols and the header
---     lengthFrom, length-from the length, by the header
+--     filter-any             the bloom filter does not ask how many symbols there are
+--     findBy, find-by        the lookup, by whether a part that is only compared is too long, the symbols and the header
+--     lengthBy, length-by    the length, by the header
 -- Assumes nothing.
 use Prim.Native.Nat.{ℕ, _/_}
 use mathlib.Core.Path.{_≡_, refl, sym, ap, _∙_}
@@ -32,16 +32,16 @@ pub filter-any : (class : Class) (order : Order) (table : List ℕ) (layout : La
 unfolding bloomFilter bloomFirst bloomSecond
 filter-any class order table layout count h = refl
 
-abbrev pub findFrom : (restLong : Bool) → SymbolCount → HeaderAt → (Layout → ℕ → Answer) → Answer
-findFrom true counted header look = Answer.Refused tooLong
-findFrom false (SymbolCount.Refused r) header look = Answer.Refused tooLong
-findFrom false (SymbolCount.Symbols n) (HeaderAt.Refused r) look = Answer.Refused r
-findFrom false (SymbolCount.Symbols n) (HeaderAt.At layout) look = look layout n
+abbrev pub findBy : (restLong : Bool) → SymbolCount → HeaderAt → (Layout → ℕ → Answer) → Answer
+findBy true counted header look = Answer.Refused tooLong
+findBy false (SymbolCount.Refused r) header look = Answer.Refused tooLong
+findBy false (SymbolCount.Symbols n) (HeaderAt.Refused r) look = Answer.Refused r
+findBy false (SymbolCount.Symbols n) (HeaderAt.At layout) look = look layout n
 
 -- the parts may be tested in any order, for each is refused alike
 any-order : (tableLong symbolsLong restLong : Bool) (o : Option Refusal) (n : ℕ) (layout : Layout) (look : Layout → ℕ → Answer)
     → cond (cond tableLong true (cond symbolsLong true restLong)) (Answer.Refused tooLong) (unlessFault o (look layout n))
-    ≡ findFrom restLong (cond symbolsLong (SymbolCount.Refused tooLong) (SymbolCount.Symbols n))
+    ≡ findBy restLong (cond symbolsLong (SymbolCount.Refused tooLong) (SymbolCount.Symbols n))
     (cond tableLong (HeaderAt.Refused tooLong) (headerAnswer o layout)) look
 any-order true true true o n layout look = refl
 any-order true true false o n layout look = refl
@@ -61,35 +61,35 @@ module _ (class : Class) (order : Order) (p : Parts) (asked : Asked) (hash : ℕ
   rest = p .strings ∷ p .versyms ∷ p .versionStrings ∷ asked .name ∷ asked .needName ∷ []
 
   by-parts : gnuFind class order p asked hash
-      ≡ findFrom (anyLong rest) (symbolCount class (p .symbols)) (gnuHeader class order (p .table)) lookIn
+      ≡ findBy (anyLong rest) (symbolCount class (p .symbols)) (gnuHeader class order (p .table)) lookIn
   unfolding gnuFind gnuHeader lookup bloomFilter bloomFirst bloomSecond startOf
   by-parts =
       any-order (ltb limit (length (p .table))) (ltb limit (length (p .symbols))) (anyLong rest) (fault class order (p .table))
       (length (p .symbols) / symbolSize class) (layoutOf class order (p .table)) lookIn
 
-  pub find-from : (restLong : Bool) (counted : SymbolCount) (header : HeaderAt)
+  pub find-by : (restLong : Bool) (counted : SymbolCount) (header : HeaderAt)
       → restLong ≡ anyLong (p .strings ∷ p .versyms ∷ p .versionStrings ∷ asked .name ∷ asked .needName ∷ [])
       → counted ≡ symbolCount class (p .symbols) → header ≡ gnuHeader class order (p .table)
-      → findFrom restLong counted header lookIn ≡ gnuFind class order p asked hash
-  find-from restLong counted header e f g =
-      ap (λ b. findFrom b counted header lookIn) e ∙ ap (λ (n : SymbolCount). findFrom (anyLong rest) n header lookIn) f
-      ∙ ap (λ (h : HeaderAt). findFrom (anyLong rest) (symbolCount class (p .symbols)) h lookIn) g ∙ sym by-parts
+      → findBy restLong counted header lookIn ≡ gnuFind class order p asked hash
+  find-by restLong counted header e f g =
+      ap (λ b. findBy b counted header lookIn) e ∙ ap (λ (n : SymbolCount). findBy (anyLong rest) n header lookIn) f
+      ∙ ap (λ (h : HeaderAt). findBy (anyLong rest) (symbolCount class (p .symbols)) h lookIn) g ∙ sym by-parts
 
-abbrev pub lengthFrom : HeaderAt → (Layout → Option ℕ) → TableLength
-lengthFrom (HeaderAt.Refused r) measure = TableLength.Refused r
-lengthFrom (HeaderAt.At layout) measure = lengthAnswer none (measure layout)
+abbrev pub lengthBy : HeaderAt → (Layout → Option ℕ) → TableLength
+lengthBy (HeaderAt.Refused r) measure = TableLength.Refused r
+lengthBy (HeaderAt.At layout) measure = lengthAnswer none (measure layout)
 
 by-header : (long : Bool) (o : Option Refusal) (layout : Layout) (measure : Layout → Option ℕ)
     → cond long (TableLength.Refused tooLong) (lengthAnswer o (measure layout))
-    ≡ lengthFrom (cond long (HeaderAt.Refused tooLong) (headerAnswer o layout)) measure
+    ≡ lengthBy (cond long (HeaderAt.Refused tooLong) (headerAnswer o layout)) measure
 by-header true o layout measure = refl
 by-header false none layout measure = refl
 by-header false (some r) layout measure = refl
 
-pub length-from : (class : Class) (order : Order) (table : List ℕ)
+pub length-by : (class : Class) (order : Order) (table : List ℕ)
     → gnuLength class order table
-    ≡ lengthFrom (gnuHeader class order table) (λ layout. lengthOf (tableAt class order table layout 0))
+    ≡ lengthBy (gnuHeader class order table) (λ layout. lengthOf (tableAt class order table layout 0))
 unfolding gnuLength gnuHeader lengthOf
-length-from class order table =
+length-by class order table =
     by-header (ltb limit (length table)) (fault class order table) (layoutOf class order table)
     (λ layout. lengthOf (tableAt class order table layout 0))

@@ -31,7 +31,8 @@ module _ (i probes : ℕ) where
   past-filter Refuses a h = cc
   past-filter Passes a h = h
 
-  past-missing : (b : Bool) (n : ℕ) (a : Answer) → cond b (Missing n) a ≡ Found (symbolIndex i) probes → a ≡ Found (symbolIndex i) probes
+  past-missing : (b : Bool) (n : ℕ) (a : Answer) → cond b (Missing n) a ≡ Found (symbolIndex i) probes
+      → a ≡ Found (symbolIndex i) probes
   past-missing true n a h = cc
   past-missing false n a h = h
 

@@ -41,7 +41,8 @@ module _ (match ends : ℕ → Bool) where
     pub walkFrom-end : match i ≡ false → ends i ≡ true → walkFrom n (from i (e - i)) ≡ Missing (n + 1)
     walkFrom-end m l = rw (from-cons i e more, m, l)
 
-    pub walkFrom-on : match i ≡ false → ends i ≡ false → walkFrom n (from i (e - i)) ≡ walkFrom (n + 1) (from (i + 1) (e - (i + 1)))
+    pub walkFrom-on : match i ≡ false → ends i ≡ false
+        → walkFrom n (from i (e - i)) ≡ walkFrom (n + 1) (from (i + 1) (e - (i + 1)))
     walkFrom-on m l =
         let rest = upTo ends (from (i + 1) (e - (i + 1))) in
         let one-more : n + suc (length (upTo match rest)) ≡ n + 1 + length (upTo match rest) = omega arith in

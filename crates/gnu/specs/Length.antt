@@ -20,6 +20,7 @@ use Rattle.gnu.specs.declared.length.TableLength.{TableLength}
 use Rattle.gnu.specs.declared.length.TableLength.the-variants.{Symbols, Nothing, Refused}
 use Rattle.gnu.specs.Table.{Table, odd, valueOf}
 use Rattle.gnu.specs.Layout.{fault, tableOf}
+use Rattle.gnu.specs.Walk.{pairEnds}
 
 abbrev pub highest : Table → ℕ
 highest t = largest (map (t .bucket) (from 0 (t .bucketCount)))
@@ -45,9 +46,11 @@ gnuLength class order table =
     cond (ltb limit (length table)) (Refused tooLong)
     (lengthAnswer (fault class order table) (lengthOf (tableOf class order table [] [])))
 
+-- the highest of so many buckets from a place on
 abbrev pub highestOf : Order → (table : List ℕ) → (bucketsAt bucketCount : ℕ) → ℕ
 highestOf order table bucketsAt bucketCount = largest (map (λ b. wordAt order 4 table (bucketsAt + b * 4)) (from 0 bucketCount))
 
+-- the length by the symbols start to end - 1
 abbrev pub lengthFrom : Order → (table : List ℕ) → (valuesAt base start end : ℕ) → TableLength
 lengthFrom order table valuesAt base start end =
-    lengthAnswer none (numberAfter (firstOf (λ i. odd (wordAt order 4 table (valuesAt + (i - base) * 4))) (from start (end - start))))
+    lengthAnswer none (numberAfter (firstOf (pairEnds order table valuesAt base) (from start (end - start))))

@@ -1,7 +1,7 @@
 -- `gnu::filter::bloom_filter` meets its contract. Both bits that were tested are the definition's; each return is then the
 -- law of its answer. Assumes nothing.
 use borrow.Author.Needs.{needs}
-use Prim.Native.Nat.{ℕ, _/_, _%_, _*_, _^_, _<_, _≤_}
+use Prim.Native.Nat.{ℕ, _%_, _*_, _<_, _≤_}
 use mathlib.Core.Path.{_≡_, sym, _∙_}
 use native.Mathlib.Omega.{arith}
 use native.Mathlib.Nat.{mod-lt}

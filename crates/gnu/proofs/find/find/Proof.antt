@@ -2,14 +2,13 @@
 use borrow.Author.Needs.{needs}
 use mathlib.Core.Path.{_≡_, refl, sym, _∙_}
 use mathlib.Core.Bool.{Bool, true, false}
-use Rattle.endian.specs.Refusals.{tooLong}
 use Rattle.symbol.specs.declared.table.SymbolCount.{SymbolCount}
 use Rattle.symbol.specs.Table.{symbolCount}
 use Rattle.lookup.specs.Wanted.{Parts, Asked}
 use Rattle.gnu.specs.declared.header.HeaderAt.{HeaderAt}
 use Rattle.gnu.specs.Header.{gnuHeader}
 use Rattle.gnu.specs.Find.{gnuFind}
-use Rattle.gnu.proofs.Finds.{findFrom, lookIn, find-from}
+use Rattle.gnu.proofs.Finds.{findBy, lookIn, find-by}
 use Rattle.gnu.proofs.find.find.Statement.{statement}
 use Rattle.gnu.proofs.find.find.Tie as tie
 
@@ -34,10 +33,10 @@ module _ (k : tie.After-any-long) where
   told : (restLong : Bool) (counted : SymbolCount) (header : HeaderAt)
       → k .any-long .result ≡ restLong → counted ≡ symbolCount (start .args .class) (start .args .symbols .now)
       → header ≡ gnuHeader (start .args .class) (start .args .order) (start .args .table .now)
-      → findFrom restLong counted header (lookIn (start .args .class) (start .args .order) parts asked (start .args .hash))
+      → findBy restLong counted header (lookIn (start .args .class) (start .args .order) parts asked (start .args .hash))
       ≡ gnuFind (start .args .class) (start .args .order) parts asked (start .args .hash)
   told restLong counted header e f g =
-      find-from (start .args .class) (start .args .order) parts asked (start .args .hash) restLong counted header
+      find-by (start .args .class) (start .args .order) parts asked (start .args .hash) restLong counted header
       (sym e ∙ k .any-long .ensures) f g
 
 any-long-requires : tie.Need-any-long-requires

@@ -5,7 +5,7 @@ use Prim.Native.Nat.{ℕ, _+_, _-_, min}
 use mathlib.Core.Path.{_≡_, sym, _∙_, subst}
 use mathlib.Core.Bool.{Bool}
 use native.Mathlib.Omega.{arith}
-use Rattle.lookup.specs.Wanted.{Parts, Asked, wanted}
+use Rattle.lookup.specs.Wanted.{wanted}
 use Rattle.gnu.specs.Table.{Table, bloomFilter}
 use Rattle.gnu.specs.Header.{tableAt}
 use Rattle.gnu.specs.Walk.{walkPairs}
@@ -38,7 +38,8 @@ module _ (k : tie.After-bloom-filter) where
   filters : bloomFilter table (start .args .hash) ≡ k .bloom-filter .result
   filters =
       sym (k .bloom-filter .ensures
-      ∙ filter-any (start .args .class) (start .args .order) (start .args .table .now) (start .args .layout) (start .args .count) (start .args .hash))
+      ∙ filter-any (start .args .class) (start .args .order) (start .args .table .now) (start .args .layout)
+      (start .args .count) (start .args .hash))
 
 -- where the start is not 0, it is in range
 in-range : (c : tie.Else1) → let k = c .before .before .before .before in

@@ -56,14 +56,16 @@ loop-again c =
     let k = c .before .before .before in
     let a = k .before .before .args in
     let b = k .loop .b in
-    let on = highest-step (bucket (a .order) (a .table .now) (a .buckets-at)) (k .loop .highest) b (a .bucket-count) (c .before .before .loop-test .taken) in
+    let on = highest-step (bucket (a .order) (a .table .now) (a .buckets-at)) (k .loop .highest) b (a .bucket-count)
+    (c .before .before .loop-test .taken) in
     (omega arith, rw (c .larger .ensures, c .before .u32-at .ensures) (sym on ∙ k .loop .inv .1))
 
 returns : tie.Need-returns Inv-loop μ-loop
 returns c =
     let k = c .before in
     let a = k .before .before .args in
-    sym (highest-end (bucket (a .order) (a .table .now) (a .buckets-at)) (k .loop .highest) (k .loop .b) (a .bucket-count) (c .loop-test .left))
+    sym (highest-end (bucket (a .order) (a .table .now) (a .buckets-at)) (k .loop .highest) (k .loop .b) (a .bucket-count)
+    (c .loop-test .left))
     ∙ k .loop .inv .1
 
 pub highest-bucket-spec : {M : Type 1} → statement M

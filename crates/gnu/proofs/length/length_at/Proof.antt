@@ -57,9 +57,11 @@ returns-4 c =
     let a = some .before .before .before .args in
     let t = tableAt (a .class) (a .order) (a .table .now) (a .layout) 0 in
     let h = at-highest .highest-bucket .result in
-    let left : a .layout .«symbol_base» + a .layout .«value_count» - h ≡ a .layout .«value_count» - (h - a .layout .«symbol_base») =
+    let left :
+    a .layout .«symbol_base» + a .layout .«value_count» - h ≡ a .layout .«value_count» - (h - a .layout .«symbol_base») =
     omega (arith, c .before .before .if3 .left) in
-    let is = length-is t (some .before .if1 .left) (some .if2 .left) (rw (← (at-highest .highest-bucket .ensures)) (c .before .before .if3 .left)) in
+    let is = length-is t (some .before .if1 .left) (some .if2 .left)
+    (rw (← (at-highest .highest-bucket .ensures)) (c .before .before .if3 .left)) in
     c .length-from .ensures ∙ rw (left, at-highest .highest-bucket .ensures) (sym (ap (lengthAnswer none) is))
 
 pub length-at-spec : {M : Type 1} → statement M

@@ -1,10 +1,10 @@
 -- `gnu::length::table_length` meets its contract. Each arm is told what `header` answered. Assumes nothing.
 use borrow.Author.Needs.{needs}
-use mathlib.Core.Path.{_≡_, sym, ap, _∙_}
+use mathlib.Core.Path.{sym, ap, _∙_}
 use Rattle.gnu.specs.declared.header.HeaderAt.{HeaderAt}
 use Rattle.gnu.specs.Header.{tableAt}
 use Rattle.gnu.specs.Length.{lengthOf}
-use Rattle.gnu.proofs.Finds.{lengthFrom, length-from}
+use Rattle.gnu.proofs.Finds.{lengthBy, length-by}
 use Rattle.gnu.proofs.length.table_length.Statement.{statement}
 use Rattle.gnu.proofs.length.table_length.Tie as tie
 
@@ -25,17 +25,17 @@ returns c =
     let called = c .before .before .before .before in
     let a = called .before .before .args in
     c .length-at .ensures
-    ∙ ap (λ (h : HeaderAt). lengthFrom h (λ layout. lengthOf (tableAt (a .class) (a .order) (a .table .now) layout 0)))
+    ∙ ap (λ (h : HeaderAt). lengthBy h (λ layout. lengthOf (tableAt (a .class) (a .order) (a .table .now) layout 0)))
     (sym (c .before .before .layout .given .1) ∙ called .header .ensures)
-    ∙ sym (length-from (a .class) (a .order) (a .table .now))
+    ∙ sym (length-by (a .class) (a .order) (a .table .now))
 
 returns-2 : tie.Need-returns-2
 returns-2 c =
     let called = c .before .before .before in
     let a = called .before .before .args in
-    ap (λ (h : HeaderAt). lengthFrom h (λ layout. lengthOf (tableAt (a .class) (a .order) (a .table .now) layout 0)))
+    ap (λ (h : HeaderAt). lengthBy h (λ layout. lengthOf (tableAt (a .class) (a .order) (a .table .now) layout 0)))
     (sym (c .before .refusal .given .1) ∙ called .header .ensures)
-    ∙ sym (length-from (a .class) (a .order) (a .table .now))
+    ∙ sym (length-by (a .class) (a .order) (a .table .now))
 
 pub table-length-spec : {M : Type 1} → statement M
 table-length-spec =

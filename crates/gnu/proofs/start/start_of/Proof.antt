@@ -1,6 +1,6 @@
 -- `gnu::start::start_of` meets its contract: each return is the law of its answer. Assumes nothing.
 use borrow.Author.Needs.{needs}
-use mathlib.Core.Path.{_≡_, sym}
+use mathlib.Core.Path.{sym}
 use native.Mathlib.Omega.{arith}
 use native.Mathlib.Nat.{mod-le}
 use Rattle.gnu.specs.Header.{tableAt}

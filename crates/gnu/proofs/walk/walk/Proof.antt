@@ -115,7 +115,8 @@ returns-2 c =
     let k = c .before .before .before .before .before in
     let s = start k in
     let matched : matches s (k .loop .i) ≡ true =
-    rw (← (c .before .before .before .u32-at .ensures), eq-eqb _ _ (c .before .before .if2 .taken)) (sym (c .before .is-wanted .ensures) ∙ c .if3 .taken) in
+    rw (← (c .before .before .before .u32-at .ensures), eq-eqb _ _ (c .before .before .if2 .taken))
+    (sym (c .before .is-wanted .ensures) ∙ c .if3 .taken) in
     sym (walkFrom-match (matches s) (ends s) (k .loop .probes) (k .loop .i) (s .args .end) (omega arith) matched) ∙ k .loop .inv .3
 
 returns-3 : tie.Need-returns-3 Inv-loop μ-loop
