@@ -7,7 +7,7 @@
 -- Assumes nothing.
 use Prim.Native.Nat.{ℕ, _+_, _-_, _/_, _≤_, _<_}
 use mathlib.Core.Path.{_≡_, refl, sym, ap, _∙_, subst}
-use mathlib.Core.Bool.{Bool, true, false, cond, _&&_, true≢false}
+use mathlib.Core.Bool.{Bool, true, false, true≢false}
 use mathlib.Core.List.{List, [], _∷_, _++_}
 use mathlib.Core.Logic.{_↔_}
 use mathlib.Core.Option.{Option, some, none}
@@ -35,11 +35,10 @@ use Rattle.gnu.specs.Table.{hashed}
 use Rattle.gnu.specs.Layout.{fault}
 use Rattle.gnu.specs.Find.{gnuTable, gnuFind}
 use Rattle.gnu.proofs.Theorems.{find-one}
-use Rattle.gnu_rules.specs.declared.Checked.{Checked}
 use Rattle.gnu_rules.specs.declared.Checked.the-variants.{Accepted, Refused as Checked·Refused}
 use Rattle.gnu_rules.specs.Rules.{check, unlessRefused, gnuCheck}
 use Rattle.gnu_rules.proofs.Kept.{rules, accepted-longest}
-use Rattle.gnu_rules.proofs.Finds.{FindsLowest, finds-lowest}
+use Rattle.gnu_rules.proofs.Finds.{finds-lowest}
 
 -- ---- the statement
 
