@@ -13,6 +13,8 @@ use Rattle.endian.specs.Refusals.{noteShort, badNoteDescriptor, badNoteAlignmen
 use Rattle.endian.specs.Word.{wordAt}
 use Rattle.gnu.specs.Find.{gnuFind}
 use Rattle.gnu.specs.Table.{bloomFirst, bloomSecond, bloomFilter, startOf, lookup}
+use Rattle.gnu_rules.specs.declared.Checked.the-variants.{Accepted}
+use Rattle.gnu_rules.specs.Rules.{gnuCheck, powerOfTwo, hashOf, isLast, findings, longest, verdict}
 use Rattle.lookup.specs.declared.Answer.{Answer}
 use Rattle.lookup.specs.declared.Answer.the-variants.{Found, Missing}
 use Rattle.lookup.specs.Wanted.{nameOf, symbolIndex, wantedIn}
@@ -69,6 +71,12 @@ gnu-symbols order = zeros 16 ++ (four order 1 ++ zeros 12)
 
 gnu-strings : List ℕ
 gnu-strings = 0 ∷ (a ++ (0 ∷ []))
+
+-- bloom 65600: accepted
+gnu-accepted : (order : Order) → gnuCheck Elf32 order (gnu-table order 65600) (gnu-symbols order) gnu-strings ≡ Accepted 1
+unfolding zeros four fours gnu-table gnu-symbols gnu-strings gnuCheck gnuHash powerOfTwo hashOf bloomFirst bloomSecond isLast findings longest verdict nameOf symbolAt readable first wordAt
+gnu-accepted Little = refl
+gnu-accepted Big = refl
 
 -- a lookup of a name by its hash, without versions
 gnu-find : Order → (bloom : ℕ) → List ℕ → Answer

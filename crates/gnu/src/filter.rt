@@ -47,13 +47,7 @@ fn bloom_word(class: Class, order: Order, table: &[u8], bloom_count: u32, hash: 
 }
 
 // What the bloom filter says of a hash.
-pub fn bloom_filter(
-    class: Class,
-    order: Order,
-    table: &[u8],
-    layout: Layout,
-    hash: u32,
-) -> Bloom
+pub fn bloom_filter(class: Class, order: Order, table: &[u8], layout: Layout, hash: u32) -> Bloom
     ensures { λ r. ⌜ r ≡ bloomFilter (tableAt class order (now (table .entry)) layout 0) hash ⌝ }
 {
     let bloom_count = layout.bloom_count;

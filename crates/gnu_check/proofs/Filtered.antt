@@ -1,7 +1,7 @@
 -- Both bloom bits of a symbol are set exactly if the bloom filter lets its hash pass, where there are bloom words and the shift is no more
 -- than 31. Assumes nothing.
 use Prim.Native.Nat.{ℕ, _≤_}
-use mathlib.Core.Path.{_≡_, refl, sym, ap, _∙_}
+use mathlib.Core.Path.{_≡_, refl, ap, _∙_}
 use mathlib.Core.Bool.{Bool, true, false, cond, not, _&&_}
 use mathlib.Core.List.{List}
 use native.Mathlib.Omega.{arith}

@@ -24,12 +24,12 @@ use Rattle.endian.specs.declared.refusals.Refusal.{Refusal}
 use Rattle.endian.specs.Refusals.{limit, tooLong}
 use Rattle.symbol.specs.declared.table.SymbolCount.{SymbolCount}
 use Rattle.symbol.specs.Table.{symbolSize, symbolCount}
-use Rattle.lookup.specs.Pick.{from, firstOf, largest, isNone}
+use Rattle.lookup.specs.Pick.{from, largest, isNone}
 use Rattle.lookup.proofs.Picking.{All, all-from, firstOf-cong, by-test, and-right, beq-eq}
 use Rattle.gnu.specs.declared.header.HeaderAt.{HeaderAt}
 use Rattle.gnu.specs.declared.header.Layout.{Layout}
 use Rattle.gnu.specs.Table.{Table, hashed, valueOf, odd}
-use Rattle.gnu.specs.Layout.{fault, tableOf}
+use Rattle.gnu.specs.Layout.{fault}
 use Rattle.gnu.specs.Header.{layoutOf, headerAnswer, gnuHeader}
 use Rattle.gnu_rules.specs.declared.Checked.{Checked}
 use Rattle.gnu_rules.specs.declared.Checked.the-variants.{Accepted, Broken, Refused}

@@ -1,21 +1,21 @@
--- The one pass gives the checker's whole answer: where G9 holds, a bucket's last symbol is the last of its run, and the longest chain is the longest run.
+-- Where G9 holds, a bucket's symbols are one run, so its last symbol is the last of the run, and the longest chain is the longest run.
+--     last-of-run    G10 may look at the next symbol alone
+--     longest-run    the longest run is the longest chain
 -- Assumes nothing.
-use mathlib.Core.Path.{_≡_, refl, sym, ap, ap₂, _∙_, subst}
-use mathlib.Core.Bool.{Bool, true, false, not, cond, _&&_, Bool·beq, true≢false, false≢true, and-false}
-use mathlib.Core.Logic.{_⊎_, inl, inr, ⊎-elim}
-use mathlib.Core.List.{List, [], _∷_, map}
-use mathlib.Core.Option.{Option, some, none}
-use Prim.Native.Nat.{ℕ, zero, suc, _+_, _-_, _%_, _≤_, _<_, max}
+use mathlib.Core.Path.{_≡_, refl, sym, ap, _∙_}
+use mathlib.Core.Bool.{true, _&&_}
+use mathlib.Core.List.{List, [], _∷_}
+use Prim.Native.Nat.{ℕ, suc, _+_, _-_, _≤_, _<_}
 use native.Mathlib.Omega.{arith}
-use native.Mathlib.Nat.{le-refl, mod-lt, eq-or-lt-of-le, le-antisymm}
-use lib.Dec.{ltb, leb, eqb}
+use native.Mathlib.Nat.{mod-lt, le-antisymm}
+use lib.Dec.{ltb}
 use lib.ListN.{length}
-use borrow.Author.Tests.{eqb-true, eq-eqb, leb-true, ltb-true, ltb-false, lt-ltb, le-ltb}
-use Rattle.lookup.specs.Pick.{from, largest}
+use borrow.Author.Tests.{eqb-true, eq-eqb, ltb-true, ltb-false, lt-ltb}
+use Rattle.lookup.specs.Pick.{from}
 use Rattle.gnu.specs.Table.{Table, hashed}
 use Rattle.gnu_rules.specs.Rules.{hashOf, bucketOf, inBucket, members, isLast, holds, longest, bucketRight}
 use Rattle.gnu_check.specs.Runs.{runStart, lastOfRun, longestRun}
-use Rattle.lookup.proofs.Picking.{All, all-from, from-all, firstOf-cong, none-firstOf, length-from, largest-le, largest-upper, by-test, not-none, and-left, and-right}
+use Rattle.lookup.proofs.Picking.{all-from, length-from, largest-le, largest-upper, by-test, and-left, and-right}
 use Rattle.gnu_rules.proofs.Members.{holds-run, no-member, inside, outside, last, not-last}
 use Rattle.gnu_check.proofs.Starts.{kept-right}
 

@@ -1,21 +1,22 @@
--- The least number of which something holds, if there is one. Assumes nothing.
+-- The least number of which something holds, if there is one.
 --     Least           what it says of an answer
 --     least-unique    there is one such answer
 --     least-map       of two facts that imply each other it is the same
 --     lesser-least    of either of two facts it is the lesser
---     firstOf-least     the first of the numbers below n that passes is the least
+--     firstOf-least   the first of the numbers below n that passes is the least
+-- Assumes nothing.
 use mathlib.Core.Path.{_≡_, refl, sym, ap, _∙_}
 use mathlib.Core.Bool.{Bool, true, false, true≢false}
 use mathlib.Core.Logic.{_⊎_, inl, inr, ⊎-elim}
 use mathlib.Core.Option.{Option, some, none}
-use Prim.Native.Nat.{ℕ, zero, suc, _+_, _≤_, _<_, min}
+use Prim.Native.Nat.{ℕ, _≤_, _<_}
 use native.Mathlib.Omega.{arith}
 use native.Mathlib.Nat.{min-eq-left, min-eq-right}
 use lib.Dec.{leb}
 use borrow.Author.Tests.{leb-true, leb-false}
 use Rattle.lookup.specs.Pick.{from, firstOf}
 use Rattle.gnu_check.specs.Runs.{lesser}
-use Rattle.lookup.proofs.Picking.{All, from-all, none-firstOf, firstOf-lowest, by-test}
+use Rattle.lookup.proofs.Picking.{from-all, none-firstOf, firstOf-lowest, by-test}
 
 abbrev pub Least : (ℕ → Type 0) → Option ℕ → Type 0
 Least P none = (c : ℕ) → P c → ⊥

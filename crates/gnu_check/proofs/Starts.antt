@@ -1,22 +1,25 @@
--- The one pass finds what G9 finds. A bucket keeps G9 exactly if it holds 0 or the start of a run of its own, and no symbol of it is misplaced.
+-- A bucket keeps G9 exactly if it holds 0 or the start of a run of its own, and the bucket of each of its symbols holds the start of its run.
+--     Start, start-of             where the run of a symbol starts, and that `runStart` says so; a run has one start
+--     begins-start, start-begins  what `begins` decides
+--     Right                       what the passes ask of a bucket
+--     right-kept, kept-right      it is G9
 -- Assumes nothing.
-use mathlib.Core.Path.{_≡_, refl, sym, ap, _∙_, subst, subst⁻¹, subst₂}
-use mathlib.Core.Bool.{Bool, true, false, not, cond, _&&_, _||_, true≢false, false≢true, and-false}
-use mathlib.Core.Logic.{_⊎_, inl, inr, ⊎-elim}
-use mathlib.Core.List.{List, [], _∷_, _++_}
-use mathlib.Core.Option.{Option, some, none}
-use Prim.Native.Nat.{ℕ, zero, suc, _+_, _-_, _%_, _≤_, _<_, min}
+use mathlib.Core.Path.{_≡_, refl, sym, ap, _∙_, subst, subst₂}
+use mathlib.Core.Bool.{true, false, not, _&&_, _||_, false≢true, and-false}
+use mathlib.Core.Logic.{_⊎_, ⊎-elim}
+use mathlib.Core.List.{List, [], _∷_}
+use Prim.Native.Nat.{ℕ, zero, suc, _+_, _-_, _≤_, _<_}
 use native.Mathlib.Omega.{arith}
-use native.Mathlib.Nat.{le-refl, add-zero, add-suc, eq-or-lt-of-le}
+use native.Mathlib.Nat.{le-refl, eq-or-lt-of-le}
 use lib.Dec.{leb, ltb, eqb}
 use lib.ListN.{length}
-use borrow.Author.Tests.{leb-true, ltb-true, eqb-true, eqb-false, eq-eqb, ne-eqb, le-leb, le-ltb, lt-ltb}
+use borrow.Author.Tests.{leb-true, ltb-true, eqb-true, eqb-false, eq-eqb, ne-eqb, le-leb, lt-ltb}
 use Rattle.lookup.specs.Pick.{from, select}
-use Rattle.gnu.specs.Table.{Table, hashed}
+use Rattle.gnu.specs.Table.{Table}
 use Rattle.gnu_rules.specs.Rules.{bucketOf, inBucket, members, holds, bucketRight}
 use Rattle.gnu_check.specs.Runs.{runStart, begins, stray}
 use Rattle.gnu_rules.proofs.Members.{holds-run, run-holds, all-members, no-member, inside, outside}
-use Rattle.lookup.proofs.Picking.{All, all-from, from-all, all-select, select-all, from-append, select-append, select-none, select-front, length-from, by-test, and-left, and-right, not-none}
+use Rattle.lookup.proofs.Picking.{All, all-from, from-append, select-append, select-none, select-front, by-test, and-left, and-right, not-none}
 
 module _ (t : Table) where
   -- s is where the run of bucket b that holds symbol i starts

@@ -3,14 +3,14 @@
 --     may-not    a symbol whose value rules a bucket out is of another
 use Prim.Native.Nat.{ℕ, _+_, _-_, _*_, _/_, _%_, _≤_, _<_}
 use mathlib.Core.Path.{_≡_, refl, sym, ap, _∙_}
-use mathlib.Core.Bool.{Bool, true, false, not, _&&_, _||_, or-true, and-false, true≢false}
+use mathlib.Core.Bool.{Bool, true, false, not, or-true, true≢false}
 use native.Mathlib.Omega.{arith}
-use lib.Dec.{leb, ltb, eqb}
+use lib.Dec.{eqb}
 use borrow.Author.Tests.{eqb-true, eqb-false, eq-eqb, ne-eqb, le-leb, lt-leb, lt-ltb, le-ltb}
 use Rattle.lookup.proofs.Picking.{by-test}
 use Rattle.gnu.specs.Table.{Table, valueOf}
-use Rattle.gnu_rules.specs.Rules.{hashOf, bucketOf, inBucket, valueIsHash}
-use Rattle.gnu_check.specs.Runs.{mayBe, begins, stray}
+use Rattle.gnu_rules.specs.Rules.{hashOf, bucketOf, valueIsHash}
+use Rattle.gnu_check.specs.Runs.{mayBe, stray}
 
 -- the double negation of a test
 not-twice : (b : Bool) → not (not b) ≡ b

@@ -15,7 +15,7 @@ use native.Mathlib.Nat.{mod-lt, sub-self, le-refl}
 use native.Mathlib.Numerals.{add-one}
 use native.Mathlib.Omega.{arith}
 use lib.Dec.{eqb}
-use borrow.Author.Tests.{eq-eqb, ne-eqb}
+use borrow.Author.Tests.{ne-eqb}
 use Rattle.lookup.specs.Pick.{from, largest}
 use Rattle.lookup.proofs.Picking.{by-test, either}
 use Rattle.gnu.specs.Table.{Table, odd}

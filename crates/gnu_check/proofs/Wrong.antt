@@ -1,18 +1,20 @@
--- The one pass gives what G9 gives: the lowest bucket that breaks it. Assumes nothing.
+-- Both passes together find the lowest bucket that breaks G9: a bucket breaks it exactly if it is stray or has a misplaced symbol.
+--     Amiss          a misplaced symbol of a bucket
+--     least-wrong    `leastWrong` is the lowest bucket that breaks G9
+-- Assumes nothing.
 use mathlib.Core.Path.{_≡_, refl, sym, ap, _∙_, subst}
 use mathlib.Core.Bool.{Bool, true, false, not, cond, _&&_, true≢false, false≢true}
 use mathlib.Core.Logic.{_⊎_, inl, inr, ⊎-elim}
 use mathlib.Core.Option.{Option, some, none}
-use Prim.Native.Nat.{ℕ, zero, suc, _+_, _-_, _%_, _≤_, _<_}
+use Prim.Native.Nat.{ℕ, zero, suc, _+_, _-_, _≤_, _<_}
 use native.Mathlib.Omega.{arith}
 use native.Mathlib.Nat.{le-refl, mod-lt, eq-or-lt-of-le}
-use lib.Dec.{eqb}
 use borrow.Author.Tests.{eqb-true, eq-eqb, not-true}
 use Rattle.lookup.specs.Pick.{from, firstOf}
 use Rattle.gnu.specs.Table.{Table, hashed}
 use Rattle.gnu_rules.specs.Rules.{hashOf, bucketOf, inBucket, lowest, bucketRight}
-use Rattle.gnu_check.specs.Runs.{lesser, runStart, misplaced, stray, leastMisplaced, leastWrong}
-use Rattle.lookup.proofs.Picking.{All, from-all, none-firstOf, firstOf-lowest, by-test, and-left, and-right, not-none}
+use Rattle.gnu_check.specs.Runs.{misplaced, stray, leastMisplaced, leastWrong}
+use Rattle.lookup.proofs.Picking.{from-all, none-firstOf, firstOf-lowest, by-test, and-left, and-right, not-none}
 use Rattle.gnu_check.proofs.Least.{Least, least-unique, least-map, lesser-least, firstOf-least}
 use Rattle.gnu_check.proofs.Starts.{Right, right-kept, kept-right}
 

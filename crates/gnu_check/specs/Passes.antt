@@ -4,15 +4,16 @@
 --     bucketAt       the value of a bucket
 --     hashAt         the hash of the string at an offset; of one that cannot be read, that of the empty name
 --     hashIn         the hash of a symbol's name
+--     lastIn         the next symbol is of another bucket, or there is none
 --     readableIn     a symbol's name can be read
 --     startsBelow    of a symbol that was looked for: its name starts below a place
 --     firstFrom      the first number from a on and below e that passes a test, or e
 -- Assumes nothing.
-use Prim.Native.Nat.{ℕ, _+_, _-_, _*_}
-use mathlib.Core.Bool.{Bool, false, not}
+use Prim.Native.Nat.{ℕ, suc, _+_, _-_, _*_, _%_}
+use mathlib.Core.Bool.{Bool, false, not, _&&_}
 use mathlib.Core.List.{List, []}
 use mathlib.Core.Option.{Option·getD}
-use lib.Dec.{ltb}
+use lib.Dec.{ltb, eqb}
 use Rattle.endian.specs.declared.kinds.Class.{Class}
 use Rattle.endian.specs.declared.kinds.Order.{Order}
 use Rattle.endian.specs.Word.{wordAt}
@@ -52,6 +53,10 @@ hashAt strings offset = gnuHash (Option·getD (bytesOf strings (stringAt strings
 
 unfoldable pub hashIn : Class → Order → (symbols strings : List ℕ) → ℕ → ℕ
 hashIn class order symbols strings i = gnuHash (Option·getD (nameOf class order symbols strings i) [])
+
+unfoldable pub lastIn : Class → Order → (symbols strings : List ℕ) → (buckets count : ℕ) → ℕ → Bool
+lastIn class order symbols strings buckets count i =
+    not (ltb (suc i) count && eqb (hashIn class order symbols strings (suc i) % buckets) (hashIn class order symbols strings i % buckets))
 
 abbrev pub readableIn : Class → Order → (symbols strings : List ℕ) → ℕ → Bool
 readableIn class order symbols strings i = not (isNone (nameOf class order symbols strings i))

@@ -10,29 +10,27 @@ ghost use mathlib.Core.Path.{_≡_};
 ghost use Prim.Native.Nat.{_+_, _*_, _≤_, _<_, max};
 ghost use Rattle.endian.specs.Word.{wordAt};
 ghost use Rattle.gnu.specs.Table.{odd};
-ghost use Rattle.gnu_check.specs.Passes.{tableWith, firstFrom};
-ghost use Rattle.gnu_check.specs.Runs.{lastOfRun, endsRun, longestChain};
+ghost use Rattle.gnu_check.specs.Passes.{tableWith, lastIn, firstFrom};
+ghost use Rattle.gnu_check.specs.Runs.{endsRun, longestChain};
 
 // Whether the next symbol is of another bucket, or there is none.
 fn is_last(
     class: Class,
     order: Order,
-    table: &[u8],
     symbols: &[u8],
     strings: &[u8],
-    layout: Layout,
+    buckets: u32,
     count: u32,
     i: u32,
 ) -> bool
-    requires { ⌜ (0 < layout .«bucket_count») × (i < count) ⌝ }
-    ensures { λ r. ⌜ r
-        ≡ lastOfRun (tableWith class order (now (table .entry)) (now (symbols .entry)) (now (strings .entry)) layout count) i ⌝ }
+    requires { ⌜ (0 < buckets) × (i < count) ⌝ }
+    ensures { λ r. ⌜ r ≡ lastIn class order (now (symbols .entry)) (now (strings .entry)) buckets count i ⌝ }
 {
     if i + 1 == count {
         return true;
     }
-    let b = bucket_of(class, order, symbols, strings, layout.bucket_count, i);
-    bucket_of(class, order, symbols, strings, layout.bucket_count, i + 1) != b
+    let b = bucket_of(class, order, symbols, strings, buckets, i);
+    bucket_of(class, order, symbols, strings, buckets, i + 1) != b
 }
 
 fn ends_right(
@@ -50,7 +48,16 @@ fn ends_right(
         ≡ endsRun (tableWith class order (now (table .entry)) (now (symbols .entry)) (now (strings .entry)) layout count) i ⌝ }
 {
     let ends = value_of(order, table, layout, i) % 2 == 1;
-    ends == is_last(class, order, table, symbols, strings, layout, count, i)
+    ends
+        == is_last(
+            class,
+            order,
+            symbols,
+            strings,
+            layout.bucket_count,
+            count,
+            i,
+        )
 }
 
 // The lowest hashed symbol whose low bit is wrong, or `count`.

@@ -3,11 +3,11 @@
 --     LowestMatch    it is the lowest such symbol, from symbol_base on and below n
 --     Demand3        the demand's sentence, of an answer and the longest chain
 --     demand-3       in an accepted table, the answer of every lookup keeps it
--- The demand's last sentence, that two different needs never get one symbol, holds of every table, accepted or not: `gnu`'s proofs have it.
+--     demand-3-last  the demand's last sentence: two lookups that ask for different names or versions never get one symbol
 -- Assumes nothing.
 use Prim.Native.Nat.{ℕ, _+_, _-_, _/_, _≤_, _<_}
 use mathlib.Core.Path.{_≡_, refl, sym, ap, _∙_, subst}
-use mathlib.Core.Bool.{Bool, true, false, cond, _&&_, true≢false}
+use mathlib.Core.Bool.{Bool, true, false, true≢false}
 use mathlib.Core.List.{List, [], _∷_, _++_}
 use mathlib.Core.Logic.{_↔_}
 use mathlib.Core.Option.{Option, some, none}
@@ -23,6 +23,7 @@ use Rattle.strings.proofs.Meaning.{same-refl}
 use Rattle.name_hash.specs.Hash.{gnuHash}
 use Rattle.symbol.specs.declared.table.SymbolIndex.{SymbolIndex}
 use Rattle.symbol.specs.Table.{symbolSize}
+use Rattle.version.specs.declared.table.Need.{Need}
 use Rattle.version.specs.Table.{matching}
 use Rattle.lookup.specs.declared.Answer.{Answer}
 use Rattle.lookup.specs.declared.Answer.the-variants.{Found, Missing, Refused}
@@ -33,11 +34,11 @@ use Rattle.lookup.proofs.Picking.{from-all, none-firstOf, firstOf-lowest, Lowes
 use Rattle.gnu.specs.Table.{hashed}
 use Rattle.gnu.specs.Layout.{fault}
 use Rattle.gnu.specs.Find.{gnuTable, gnuFind}
-use Rattle.gnu_rules.specs.declared.Checked.{Checked}
+use Rattle.gnu.proofs.Theorems.{find-one}
 use Rattle.gnu_rules.specs.declared.Checked.the-variants.{Accepted, Refused as Checked·Refused}
 use Rattle.gnu_rules.specs.Rules.{check, unlessRefused, gnuCheck}
 use Rattle.gnu_rules.proofs.Kept.{rules, accepted-longest}
-use Rattle.gnu_rules.proofs.Finds.{FindsLowest, finds-lowest}
+use Rattle.gnu_rules.proofs.Finds.{finds-lowest}
 
 -- ---- the statement
 
@@ -201,3 +202,14 @@ demand-3 class order p most accepted asked short =
     rw (all-short (p .table ∷ p .symbols ∷ p .strings ∷ []) _ (a .short) short, a .header, f .answer)
     (by-first class order p asked most (f .probes) (subst (λ m. f .probes ≤ m) (accepted-longest t most (a .table)) (f .few))
     (kept .base-high) (firstOf (wanted class order p asked) (hashed t)) refl)
+
+-- two lookups that each state a version and get the same symbol asked for one name and one version; in any table, accepted or not, and by
+-- any hashes
+pub demand-3-last : (class : Class) (order : Order) (p : Parts) (asked asked′ : Asked) (hash hash′ needed needed′ k probes probes′ : ℕ)
+    → asked .need ≡ Need.Hash needed → asked′ .need ≡ Need.Hash needed′
+    → gnuFind class order p asked hash ≡ Found (symbolIndex k) probes
+    → gnuFind class order p asked′ hash′ ≡ Found (symbolIndex k) probes′
+    → (asked .name ≡ asked′ .name) × (asked .needName ≡ asked′ .needName) × (needed ≡ needed′)
+demand-3-last class order p asked asked′ hash hash′ needed needed′ k probes probes′ need need′ found found′ =
+    let one = find-one class order p asked asked′ hash hash′ needed needed′ k probes probes′ need need′ found found′ in
+    (one .name, one .versionName, one .versionHash)

@@ -6,8 +6,8 @@
 --     outside                     each hashed symbol of the bucket is in it
 --     last, not-last              its end is the bucket's last symbol, and no number before it is
 use Prim.Native.Nat.{ℕ, suc, _+_, _-_, _≤_, _<_}
-use mathlib.Core.Path.{_≡_, refl, sym, ap, _∙_, subst, subst⁻¹}
-use mathlib.Core.Bool.{Bool, true, false, _&&_}
+use mathlib.Core.Path.{_≡_, refl, ap, _∙_, subst, subst⁻¹}
+use mathlib.Core.Bool.{true, false}
 use mathlib.Core.List.{List, [], _∷_}
 use native.Mathlib.Omega.{arith}
 use lib.Dec.{eqb}
@@ -15,8 +15,8 @@ use lib.ListN.{length}
 use borrow.Author.Tests.{eqb-true, eq-eqb}
 use Rattle.strings.specs.Strings.{same}
 use Rattle.strings.proofs.Meaning.{same-refl, same-true}
-use Rattle.lookup.specs.Pick.{from, firstOf}
-use Rattle.lookup.proofs.Picking.{All, all-from, from-all, all-select, select-all, firstOf-none, firstOf-hit, by-test, and-left, and-right, length-from}
+use Rattle.lookup.specs.Pick.{from}
+use Rattle.lookup.proofs.Picking.{All, all-from, from-all, all-select, select-all, firstOf-none, firstOf-hit, by-test, and-left, and-right}
 use Rattle.gnu.specs.Table.{Table, hashed}
 use Rattle.gnu_rules.specs.Rules.{bucketOf, inBucket, members, isLast, holds}
 

@@ -1,5 +1,5 @@
 -- `gnu_check::check::broken_header` meets its contract. Each answer is the one that its tests pick. Assumes nothing.
-use mathlib.Core.Path.{_≡_, sym, _∙_}
+use mathlib.Core.Path.{sym, _∙_}
 use borrow.Author.Needs.{needs}
 use borrow.Author.Tests.{le-leb, lt-leb, not-true, not-false}
 use Rattle.gnu_check.specs.Verdicts.{brokenHeader}

@@ -1,7 +1,7 @@
 -- `gnu_check::check::is_power_of_two` meets its contract. The invariant: the first power from here on is the first of all. The measure is what
 -- is left of 32. Assumes nothing.
 use Prim.Native.Nat.{_-_}
-use mathlib.Core.Path.{_≡_, sym, _∙_}
+use mathlib.Core.Path.{sym, _∙_}
 use native.Mathlib.Omega.{arith}
 use borrow.Author.Needs.{needs}
 use borrow.Author.Tests.{eq-eqb, ne-eqb}

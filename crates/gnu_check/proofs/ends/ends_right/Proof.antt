@@ -1,5 +1,7 @@
 -- `gnu_check::ends::ends_right` meets its contract: both bits are the definition's. Assumes nothing.
 use borrow.Author.Needs.{needs}
+use Rattle.gnu_rules.specs.Rules.{hashOf}
+use Rattle.gnu_check.specs.Passes.{hashIn, lastIn}
 use Rattle.gnu_check.proofs.ends.ends_right.Statement.{statement}
 use Rattle.gnu_check.proofs.ends.ends_right.Tie as tie
 
@@ -10,6 +12,7 @@ is-last-requires : tie.Need-is-last-requires
 is-last-requires c κs = search needs
 
 returns : tie.Need-returns
+unfolding hashOf hashIn lastIn
 returns c = rw (c .is-last .ensures, c .before .value-of .ensures)
 
 pub ends-right-spec : {M : Type 1} → statement M

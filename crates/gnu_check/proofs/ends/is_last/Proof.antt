@@ -1,12 +1,10 @@
 -- `gnu_check::ends::is_last` meets its contract: the buckets that were computed are the definition's. Assumes nothing.
 use Prim.Native.Nat.{suc, _<_}
-use mathlib.Core.Path.{_≡_, sym, _∙_}
 use native.Mathlib.Numerals.{add-one}
 use native.Mathlib.Omega.{arith}
 use borrow.Author.Needs.{needs}
 use borrow.Author.Tests.{lt-ltb, le-ltb}
-use Rattle.gnu_rules.specs.Rules.{hashOf}
-use Rattle.gnu_check.specs.Passes.{hashIn}
+use Rattle.gnu_check.specs.Passes.{lastIn}
 use Rattle.gnu_check.proofs.ends.is_last.Statement.{statement}
 use Rattle.gnu_check.proofs.ends.is_last.Tie as tie
 
@@ -14,7 +12,10 @@ add-if1 : tie.Need-add-if1
 add-if1 c = search needs
 
 returns : tie.Need-returns
-returns c = let a = c .before .before .before .before .args in rw (le-ltb (suc (a .i)) (a .count) (omega (arith, c .if1 .taken)))
+unfolding lastIn
+returns c =
+    let a = c .before .before .before .args in
+    rw (le-ltb (suc (a .i)) (a .count) (omega (arith, c .if1 .taken)))
 
 bucket-of-requires : tie.Need-bucket-of-requires
 bucket-of-requires c κs = search needs
@@ -26,9 +27,9 @@ bucket-of-requires-2 : tie.Need-bucket-of-requires-2
 bucket-of-requires-2 c κs = search needs
 
 returns-2 : tie.Need-returns-2
-unfolding hashOf hashIn
+unfolding lastIn
 returns-2 c =
-    let start = c .before .before .before .before .before .before in
+    let start = c .before .before .before .before .before in
     let a = start .args in
     let within = start .pre .1 in
     let more : suc (a .i) < a .count = omega (arith, c .before .before .if1 .left) in

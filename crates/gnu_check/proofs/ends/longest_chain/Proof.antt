@@ -1,7 +1,6 @@
 -- `gnu_check::ends::longest_chain` meets its contract. The invariant: the larger of the longest so far and of what the rest gives is the
 -- answer. The measure is what is left of the symbols. Assumes nothing.
 use Prim.Native.Nat.{ℕ, _+_, _-_, _*_, _≤_}
-use mathlib.Core.Path.{_≡_, sym, ap, _∙_}
 use mathlib.Core.List.{List}
 use native.Mathlib.Omega.{arith}
 use borrow.Author.Needs.{needs}

@@ -1,3 +1,4 @@
+-- `gnu_check::hashes::bucket_of` meets its contract. Assumes nothing.
 use borrow.Author.Needs.{needs}
 use native.Mathlib.Nat.{mod-lt}
 use Rattle.gnu_check.proofs.hashes.bucket_of.Statement.{statement}

@@ -1,5 +1,6 @@
+-- `gnu_check::hashes::symbol_hash` meets its contract. Each arm is told what `symbol_at` answered. Assumes nothing.
 use borrow.Author.Needs.{needs}
-use mathlib.Core.Path.{_≡_, sym, _∙_}
+use mathlib.Core.Path.{sym, _∙_}
 use Rattle.gnu_check.proofs.Hashing.{hashIn-at, hashIn-none}
 use Rattle.gnu_check.proofs.hashes.symbol_hash.Statement.{statement}
 use Rattle.gnu_check.proofs.hashes.symbol_hash.Tie as tie

@@ -1,7 +1,7 @@
 -- `gnu_check::runs::least_misplaced` meets its contract. The invariant: the lesser of the best so far and of what the rest gives is the
 -- answer. The measure is what is left of the symbols. Assumes nothing.
-use Prim.Native.Nat.{ℕ, _-_}
-use mathlib.Core.Path.{_≡_, sym, ap, _∙_}
+use Prim.Native.Nat.{_-_}
+use mathlib.Core.Path.{_≡_}
 use borrow.Author.Needs.{needs}
 use Rattle.gnu_rules.specs.Rules.{hashOf, bucketOf}
 use Rattle.gnu_check.specs.Passes.{tableWith, hashIn}

@@ -1,6 +1,6 @@
 -- `gnu_check::runs::lowest_wrong_bucket` meets its contract: the lower of both passes' answers. Assumes nothing.
 use Prim.Native.Nat.{_-_, _≤_}
-use mathlib.Core.Path.{_≡_, sym, ap, _∙_}
+use mathlib.Core.Path.{_≡_, _∙_}
 use mathlib.Core.Option.{Option·getD}
 use native.Mathlib.Nat.{sub-zero}
 use native.Mathlib.Omega.{arith}
