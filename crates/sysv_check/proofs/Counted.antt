@@ -1,6 +1,7 @@
 -- T3 by one walk along every chain is T3.
--- There: no number stands twice on a chain that comes to 0, nor on the chains of two buckets, since its hash has one; so each number is met at most once,
--- and n - low steps over n - low numbers meet each. Back: each number is met once, so the steps are n - low.
+-- There: no number stands twice on a chain that comes to 0, nor on the chains of two buckets, since its hash has one; so
+-- each number is met at most once, and n - low steps over n - low numbers meet each. Back: each number is met once, so the
+-- steps are n - low.
 -- Assumes nothing.
 use mathlib.Core.Path.{_≡_, refl, sym, ap, _∙_, subst}
 use mathlib.Core.Bool.{Bool, true, false, cond, _&&_, true≢false}
@@ -10,7 +11,7 @@ use Prim.Native.Nat.{ℕ, zero, suc, _+_, _-_, _≤_, _<_}
 use native.Mathlib.Omega.{arith}
 use native.Mathlib.Nat.{mod-lt}
 use lib.Dec.{leb, ltb, eqb}
-use lib.ListN.{length}
+use lib.ListN.{length, length-append}
 use borrow.Author.Tests.{leb-true, ltb-true, eqb-true, eqb-false, eq-eqb, ne-eqb, le-leb, lt-ltb}
 use Rattle.lookup.specs.Pick.{from}
 use Rattle.lookup.proofs.Picking.{All, all-map, all-from, from-all, by-test, and-left, and-right, test-ext}
@@ -18,7 +19,7 @@ use Rattle.sysv.specs.Table.{Table, numbers}
 use Rattle.sysv_check.specs.Count.{times}
 use Rattle.sysv_check.specs.Rules.{hashOf, bucketOf, Chain, right, t1, t3, t3At}
 use Rattle.sysv_check.specs.Pass.{mayStand, follow, onward, followAll, spent, allSpent}
-use Rattle.sysv_check.proofs.Counting.{sum, sum-single, sum-times, sum-ones, all-ones, all-every, all-append, length-both, times-append, times-none, times-all, all-times}
+use Rattle.sysv_check.proofs.Counting.{sum, sum-single, sum-times, sum-ones, all-ones, all-every, all-append, times-append, times-none, times-all, all-times}
 use Rattle.sysv_check.proofs.Chained.{chain-range, no-repeat, chain-whole}
 use Rattle.sysv_check.proofs.Ruled.{Shape, shape, placed}
 
@@ -129,7 +130,7 @@ module _ (t : Table) (low : ℕ) where
         let here = onward-some b o (later .k) (later .given) in
         let f = follow-path b (here .0) (t .bucket b) (later .k) (here .2) in
         let same = chain-whole (t .chainCount) (t .chain) (t .bucket b) (f .list) (f .path) .1 in
-        let long = length-both (numbers t b) (together t bs) in
+        let long = length-append (numbers t b) (together t bs) in
         let long' = ap length same in
         record {
           k = here .0;
@@ -143,7 +144,7 @@ module _ (t : Table) (low : ℕ) where
     unfolding followAll
     follow-all [] k r w steps = let z : k ≡ r = omega arith in ap (λ x. some x) z
     follow-all (b ∷ bs) k r w steps =
-        let long = length-both (numbers t b) (together t bs) in
+        let long = length-append (numbers t b) (together t bs) in
         rw (path-follow b k (t .bucket b) (length (together t bs) + r) (numbers t b) (w .0 .path) (w .0 .goods) (omega arith))
         (follow-all bs (length (together t bs) + r) r (w .1) refl)
 

@@ -6,7 +6,7 @@
 --     passing-start, -wrong, -on, -end             at its start; a chain with something wrong; a chain without; after the last
 -- Assumes nothing.
 use mathlib.Core.Path.{_≡_, refl, sym, ap, _∙_}
-use mathlib.Core.Bool.{Bool, true, false, cond, _&&_}
+use mathlib.Core.Bool.{Bool, true, false, _&&_}
 use mathlib.Core.List.{List, [], _∷_}
 use mathlib.Core.Option.{Option, some, none}
 use Prim.Native.Nat.{ℕ, zero, suc, _+_, _-_, _≤_, _<_}
@@ -18,7 +18,7 @@ use Rattle.lookup.specs.Pick.{from}
 use Rattle.lookup.proofs.Picking.{by-test, and-left, and-right}
 use Rattle.sysv_check.specs.declared.chains.Steps.{Steps}
 use Rattle.sysv_check.specs.declared.chains.Steps.the-variants.{Left, Wrong}
-use Rattle.sysv_check.specs.Pass.{inRange, mayStand, stepsOf, ended, follow, onward, followAll, spent, allSpent}
+use Rattle.sysv_check.specs.Pass.{inRange, mayStand, stepsOf, ended, follow, followAll, spent, allSpent}
 
 module _ (chain : ℕ → ℕ) (may : ℕ → Bool) (left start : ℕ) where
   abbrev along : Steps

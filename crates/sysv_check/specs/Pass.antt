@@ -1,5 +1,5 @@
--- What the checker's passes compute: T1 of the numbers, T2 by the place after the last zero, and T3 by one walk along every chain with as many steps as
--- there are symbols. That these are T1 to T3 is proved (`proofs/Counted`, `Passes`).
+-- What the checker's passes compute: T1 of the numbers, T2 by the place after the last zero, and T3 by one walk along every
+-- chain with as many steps as there are symbols. That these are T1 to T3 is proved (`proofs/Readings`, `Counted`, `Passes`).
 --     shaped                  T1
 --     startsBelow             whether a symbol's name starts below a place
 --     inRange                 whether a number may stand on a chain at all

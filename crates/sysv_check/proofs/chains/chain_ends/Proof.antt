@@ -1,7 +1,7 @@
--- `sysv_check::chains::chain_ends` meets its contract. The invariant: what is left of the chain, with the steps that are left, gives the answer. The
--- measure is the steps that are left. Assumes nothing.
-use Prim.Native.Nat.{ℕ, _+_, _*_, _^_, _<_}
-use mathlib.Core.Path.{_≡_, ap}
+-- `sysv_check::chains::chain_ends` meets its contract. The invariant: what is left of the chain, with the steps that are left,
+-- gives the answer. The measure is the steps that are left. Assumes nothing.
+use Prim.Native.Nat.{_+_, _*_, _^_, _<_}
+use mathlib.Core.Path.{ap}
 use native.Mathlib.Omega.{arith}
 use borrow.Author.Needs.{needs}
 use borrow.Author.Tests.{lt-leb, le-leb, lt-ltb, le-ltb}

@@ -1,8 +1,7 @@
--- `sysv_check::chains::chains_hold` meets its contract. The invariant: the buckets that are left, with the steps that are left, give the answer. The measure
--- is how many buckets are left. Assumes nothing.
-use Prim.Native.Nat.{ℕ, _+_, _-_, _*_, _%_, _≤_}
-use mathlib.Core.Path.{_≡_, sym, ap, _∙_}
-use native.Mathlib.Omega.{arith}
+-- `sysv_check::chains::chains_hold` meets its contract. The invariant: the buckets that are left, with the steps that are
+-- left, give the answer. The measure is how many buckets are left. Assumes nothing.
+use Prim.Native.Nat.{_+_, _-_, _*_, _%_}
+use mathlib.Core.Path.{_≡_, sym, _∙_}
 use borrow.Author.Needs.{needs}
 use borrow.Author.Tests.{not-true}
 use Rattle.endian.specs.Word.{wordAt}
