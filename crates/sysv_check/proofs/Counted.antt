@@ -4,7 +4,7 @@
 -- steps are n - low.
 -- Assumes nothing.
 use mathlib.Core.Path.{_≡_, refl, sym, ap, _∙_, subst}
-use mathlib.Core.Bool.{Bool, true, false, cond, _&&_, true≢false}
+use mathlib.Core.Bool.{Bool, true, false, _&&_, true≢false}
 use mathlib.Core.List.{List, [], _∷_, _++_}
 use mathlib.Core.Option.{Option, some, none, Option·none-ne-some}
 use Prim.Native.Nat.{ℕ, zero, suc, _+_, _-_, _≤_, _<_}
@@ -21,7 +21,7 @@ use Rattle.sysv_check.specs.Rules.{hashOf, bucketOf, Chain, right, t1, t
 use Rattle.sysv_check.specs.Pass.{mayStand, follow, onward, followAll, spent, allSpent}
 use Rattle.sysv_check.proofs.Counting.{sum, sum-single, sum-times, sum-ones, all-ones, all-every, all-append, times-append, times-none, times-all, all-times}
 use Rattle.sysv_check.proofs.Chained.{chain-range, no-repeat, chain-whole}
-use Rattle.sysv_check.proofs.Ruled.{Shape, shape, placed}
+use Rattle.sysv_check.proofs.Ruled.{Shape, shape, placed, right-both}
 
 some-same : (a b : ℕ) → some a ≡ some b → a ≡ b
 some-same a b h = cc
@@ -29,11 +29,6 @@ some-same a b h = cc
 spent-some : (o : Option ℕ) → spent o ≡ true → o ≡ some 0
 spent-some none h = cc
 spent-some (some k) h = ap (λ x. some x) (eqb-true k 0 h)
-
-right-both : (b c : Bool) (k : ℕ) → 0 < k → k ≡ cond (b && c) 1 0 → (b ≡ true) × (c ≡ true)
-right-both true true k more h = (refl, refl)
-right-both true false k more h = absurd (omega arith)
-right-both false c k more h = absurd (omega arith)
 
 module _ (t : Table) where
   -- the numbers on the chains of these buckets, one after the other
@@ -230,7 +225,7 @@ module _ (t : Table) (low : ℕ) where
                 let range = times-all (λ y. (1 ≤ y) × (y < 1 + (t .chainCount - 1))) x (numbers t b)
                 (chain-range (t .chainCount) (t .chain) (t .bucket b) (numbers t b) (p .path)) more in
                 let below : x < t .count = omega (arith, range .1) in
-                let both = right-both (leb low x) (eqb (bucketOf t x) b) (times x (numbers t b)) more
+                let both = right-both (leb low x) (eqb (bucketOf t x) b) (times x (numbers t b)) _ more
                 (p .often x (range .0) below) in
                 rw (both .0, lt-ltb x (t .count) below, both .1));
           }
