@@ -4,9 +4,8 @@
 --     find-one       two lookups over the same parts that each state a version and get one symbol ask for the same
 -- Assumes nothing.
 use Prim.Native.Nat.{ℕ, _%_}
-use mathlib.Core.Path.{_≡_, refl, sym, _∙_}
+use mathlib.Core.Path.{_≡_}
 use mathlib.Core.Bool.{Bool, true, false, cond}
-use mathlib.Core.List.{List}
 use mathlib.Core.Option.{Option, some, none}
 use lib.Dec.{eqb}
 use Rattle.endian.specs.declared.kinds.Class.{Class}
@@ -15,7 +14,6 @@ use Rattle.endian.specs.declared.refusals.Refusal.{Refusal}
 use Rattle.endian.specs.Refusals.{anyLong, tooLong}
 use Rattle.version.specs.declared.table.Need.{Need}
 use Rattle.version.specs.Table.{matching}
-use Rattle.lookup.specs.declared.Answer.{Answer}
 use Rattle.lookup.specs.declared.Answer.the-variants.{Found, Missing, Refused}
 use Rattle.lookup.specs.Wanted.{Parts, Asked, allParts, nameOf, symbolIndex, wanted, walk, unlessFault}
 use Rattle.lookup.proofs.Distinct.{Same, wanted-named, wanted-fits, wanted-one, walk-wanted}

@@ -16,7 +16,7 @@ ghost use mathlib.Core.List.{[], _∷_};
 ghost use Prim.Native.Nat.{_+_, _*_, _^_, _<_};
 ghost use Rattle.endian.specs.Refusals.{anyLong};
 ghost use Rattle.endian.specs.Word.{wordAt};
-ghost use Rattle.lookup.specs.Wanted.{Parts, Asked, wantedIn};
+ghost use Rattle.lookup.specs.Wanted.{wantedIn};
 ghost use Rattle.lookup.specs.Wanted.{walk as walkOf};
 ghost use Rattle.sysv.specs.Layout.{headerOf, tableOf};
 ghost use Rattle.sysv.specs.Table.{visited, lookup};

@@ -1,18 +1,19 @@
--- A SysV table that the checker accepts (01, "SysV checker"): for any name with its own SysV hash, any version table and any need, all within the limit, the
--- lookup is not refused; it finds nothing exactly if no symbol 1 to n - 1 matches; else it finds the first match on the chain of the name's hash.
--- Every match stands on that chain (T3), and the chain holds no other numbers than symbols of 1 to n - 1.
+-- A SysV table that the checker accepts (01, "SysV checker"): for any name with its own SysV hash, any version table and
+-- any need, all within the limit, the lookup is not refused; it finds nothing exactly if no symbol 1 to n - 1 matches; else
+-- it finds the first match on the chain of the name's hash. Every match stands on that chain (T3), and the chain holds no
+-- other numbers than symbols of 1 to n - 1.
 --     Matches            a symbol has the name, and its version is the one that is needed
 --     FirstMatch         the first match on a list
 --     Right, accepted    the statement, and that it holds
 -- Assumes nothing.
 use Prim.Native.Nat.{ℕ, suc, _+_, _*_, _/_, _%_, _≤_, _<_}
 use mathlib.Core.Path.{_≡_, refl, sym, ap, _∙_}
-use mathlib.Core.Bool.{Bool, true, false, cond, _&&_, true≢false}
+use mathlib.Core.Bool.{Bool, true, false, cond, true≢false}
 use mathlib.Core.List.{List, [], _∷_, _++_}
 use mathlib.Core.Option.{Option, some, none}
 use native.Mathlib.Omega.{arith}
 use native.Mathlib.Nat.{mod-lt}
-use lib.Dec.{ltb, eqb}
+use lib.Dec.{ltb}
 use lib.ListN.{length}
 use borrow.Author.Tests.{eq-eqb, ne-eqb}
 use Rattle.endian.specs.declared.kinds.Class.{Class}
@@ -139,7 +140,9 @@ module _ (class : Class) (order : Order) (p : Parts) (asked : Asked)
   home-low = mod-lt (sysvHash (asked .name)) (ruled .shaped .buckets)
 
   none-long : anyLong (allParts p asked) ≡ false
-  none-long = both-short (ltb limit (length (p .table))) (ltb limit (length (p .symbols))) (ltb limit (length (p .strings))) _ (past .0) short
+  none-long =
+      both-short (ltb limit (length (p .table))) (ltb limit (length (p .symbols))) (ltb limit (length (p .strings))) _
+      (past .0) short
 
   walked : answer class order p asked ≡ walk match (numbers t home)
   unfolding sysvFind lookup

@@ -1,16 +1,17 @@
 -- T3 by one walk along every chain is T3.
--- There: no number stands twice on a chain that comes to 0, nor on the chains of two buckets, since its hash has one; so each number is met at most once,
--- and n - low steps over n - low numbers meet each. Back: each number is met once, so the steps are n - low.
+-- There: no number stands twice on a chain that comes to 0, nor on the chains of two buckets, since its hash has one; so
+-- each number is met at most once, and n - low steps over n - low numbers meet each. Back: each number is met once, so the
+-- steps are n - low.
 -- Assumes nothing.
 use mathlib.Core.Path.{_≡_, refl, sym, ap, _∙_, subst}
-use mathlib.Core.Bool.{Bool, true, false, cond, _&&_, true≢false}
+use mathlib.Core.Bool.{Bool, true, false, _&&_, true≢false}
 use mathlib.Core.List.{List, [], _∷_, _++_}
 use mathlib.Core.Option.{Option, some, none, Option·none-ne-some}
 use Prim.Native.Nat.{ℕ, zero, suc, _+_, _-_, _≤_, _<_}
 use native.Mathlib.Omega.{arith}
 use native.Mathlib.Nat.{mod-lt}
 use lib.Dec.{leb, ltb, eqb}
-use lib.ListN.{length}
+use lib.ListN.{length, length-append}
 use borrow.Author.Tests.{leb-true, ltb-true, eqb-true, eqb-false, eq-eqb, ne-eqb, le-leb, lt-ltb}
 use Rattle.lookup.specs.Pick.{from}
 use Rattle.lookup.proofs.Picking.{All, all-map, all-from, from-all, by-test, and-left, and-right, test-ext}
@@ -18,9 +19,9 @@ use Rattle.sysv.specs.Table.{Table, numbers}
 use Rattle.sysv_check.specs.Count.{times}
 use Rattle.sysv_check.specs.Rules.{hashOf, bucketOf, Chain, right, t1, t3, t3At}
 use Rattle.sysv_check.specs.Pass.{mayStand, follow, onward, followAll, spent, allSpent}
-use Rattle.sysv_check.proofs.Counting.{sum, sum-single, sum-times, sum-ones, all-ones, all-every, all-append, length-both, times-append, times-none, times-all, all-times}
+use Rattle.sysv_check.proofs.Counting.{sum, sum-single, sum-times, sum-ones, all-ones, all-every, all-append, times-append, times-none, times-all, all-times}
 use Rattle.sysv_check.proofs.Chained.{chain-range, no-repeat, chain-whole}
-use Rattle.sysv_check.proofs.Ruled.{Shape, shape, placed}
+use Rattle.sysv_check.proofs.Ruled.{Shape, shape, placed, right-both}
 
 some-same : (a b : ℕ) → some a ≡ some b → a ≡ b
 some-same a b h = cc
@@ -28,11 +29,6 @@ some-same a b h = cc
 spent-some : (o : Option ℕ) → spent o ≡ true → o ≡ some 0
 spent-some none h = cc
 spent-some (some k) h = ap (λ x. some x) (eqb-true k 0 h)
-
-right-both : (b c : Bool) (k : ℕ) → 0 < k → k ≡ cond (b && c) 1 0 → (b ≡ true) × (c ≡ true)
-right-both true true k more h = (refl, refl)
-right-both true false k more h = absurd (omega arith)
-right-both false c k more h = absurd (omega arith)
 
 module _ (t : Table) where
   -- the numbers on the chains of these buckets, one after the other
@@ -129,7 +125,7 @@ module _ (t : Table) (low : ℕ) where
         let here = onward-some b o (later .k) (later .given) in
         let f = follow-path b (here .0) (t .bucket b) (later .k) (here .2) in
         let same = chain-whole (t .chainCount) (t .chain) (t .bucket b) (f .list) (f .path) .1 in
-        let long = length-both (numbers t b) (together t bs) in
+        let long = length-append (numbers t b) (together t bs) in
         let long' = ap length same in
         record {
           k = here .0;
@@ -143,7 +139,7 @@ module _ (t : Table) (low : ℕ) where
     unfolding followAll
     follow-all [] k r w steps = let z : k ≡ r = omega arith in ap (λ x. some x) z
     follow-all (b ∷ bs) k r w steps =
-        let long = length-both (numbers t b) (together t bs) in
+        let long = length-append (numbers t b) (together t bs) in
         rw (path-follow b k (t .bucket b) (length (together t bs) + r) (numbers t b) (w .0 .path) (w .0 .goods) (omega arith))
         (follow-all bs (length (together t bs) + r) r (w .1) refl)
 
@@ -229,7 +225,7 @@ module _ (t : Table) (low : ℕ) where
                 let range = times-all (λ y. (1 ≤ y) × (y < 1 + (t .chainCount - 1))) x (numbers t b)
                 (chain-range (t .chainCount) (t .chain) (t .bucket b) (numbers t b) (p .path)) more in
                 let below : x < t .count = omega (arith, range .1) in
-                let both = right-both (leb low x) (eqb (bucketOf t x) b) (times x (numbers t b)) more
+                let both = right-both (leb low x) (eqb (bucketOf t x) b) (times x (numbers t b)) _ more
                 (p .often x (range .0) below) in
                 rw (both .0, lt-ltb x (t .count) below, both .1));
           }

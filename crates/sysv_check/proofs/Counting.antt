@@ -1,6 +1,6 @@
 -- Counting by runs: sums over a run of numbers, how often a number stands in a list, and the pigeonholes.
 --     every-all, all-every             a test of all elements, and the fact
---     all-append, length-both          of two lists laid together
+--     all-append                       of two lists laid together
 --     times-append, times-none, all-times, times-all    how often a number stands in a list, and what holds of its elements
 --     sum                              f a + f (a + 1) + .., k summands
 --     sum-single, sum-ones, sum-times  one summand that is not 0; all 1; a list of numbers of a run is as long as the sum
@@ -8,18 +8,17 @@
 --     all-ones                         k summands of at most 1 that add up to k are all 1
 -- Assumes nothing.
 use mathlib.Core.Path.{_≡_, refl, sym, ap, _∙_, subst}
-use mathlib.Core.Bool.{Bool, true, false, cond, _&&_, true≢false}
-use mathlib.Core.Logic.{_⊎_, inl, inr, ⊎-elim}
+use mathlib.Core.Bool.{Bool, true}
+use mathlib.Core.Logic.{_⊎_, ⊎-elim}
 use mathlib.Core.List.{List, [], _∷_, _++_}
 use Prim.Native.Nat.{ℕ, zero, suc, _+_, _-_, _≤_, _<_}
 use native.Mathlib.Omega.{arith}
 use native.Mathlib.Nat.{le-refl, eq-or-lt-of-le}
 use lib.Dec.{eqb}
 use lib.ListN.{length}
-use borrow.Author.Tests.{eqb-true, eqb-false, eq-eqb, ne-eqb}
-use Rattle.lookup.specs.Pick.{from}
+use borrow.Author.Tests.{eqb-true, eq-eqb, ne-eqb}
 use Rattle.sysv_check.specs.Count.{every, one, times}
-use Rattle.lookup.proofs.Picking.{All, all-map, by-test, and-left, and-right}
+use Rattle.lookup.proofs.Picking.{All, by-test, and-left, and-right}
 
 pub every-all : (p : ℕ → Bool) (xs : List ℕ) → every p xs ≡ true → All (λ x. p x ≡ true) xs
 every-all p [] h = tt
@@ -32,10 +31,6 @@ all-every p (x ∷ xs) h = rw (h .0) (all-every p xs (h .1))
 pub all-append {ℓ} : (P : ℕ → Type ℓ) (xs ys : List ℕ) → All P xs → All P ys → All P (xs ++ ys)
 all-append P [] ys h k = k
 all-append P (x ∷ xs) ys h k = (h .0, all-append P xs ys (h .1) k)
-
-pub length-both : (xs ys : List ℕ) → length (xs ++ ys) ≡ length xs + length ys
-length-both [] ys = omega arith
-length-both (x ∷ xs) ys = let r = length-both xs ys in omega arith
 
 -- ---- how often a number stands in a list
 
@@ -62,13 +57,6 @@ pub sum-add : (f g : ℕ → ℕ) (a k : ℕ) → sum (λ i. f i + g i) a k ≡ 
 sum-add f g a zero = refl
 sum-add f g a (suc k) = let r = sum-add f g (suc a) k in omega arith
 
-pub sum-cong : (f g : ℕ → ℕ) (a k : ℕ) → ((i : ℕ) → a ≤ i → i < a + k → f i ≡ g i) → sum f a k ≡ sum g a k
-sum-cong f g a zero same = refl
-sum-cong f g a (suc k) same =
-    let here = same a (omega arith) (omega arith) in
-    let r = sum-cong f g (suc a) k (λ i lo hi. same i (omega arith) (omega arith)) in
-    omega arith
-
 pub sum-zero : (f : ℕ → ℕ) (a k : ℕ) → ((i : ℕ) → a ≤ i → i < a + k → f i ≡ 0) → sum f a k ≡ 0
 sum-zero f a zero same = refl
 sum-zero f a (suc k) same =
@@ -91,11 +79,13 @@ sum-le f a (suc k) few =
     omega arith
 
 -- where all but one summand are 0, the sum is that one
-pub sum-single : (f : ℕ → ℕ) (a k c : ℕ) → a ≤ c → c < a + k → ((i : ℕ) → a ≤ i → i < a + k → ¬ (i ≡ c) → f i ≡ 0) → sum f a k ≡ f c
+pub sum-single : (f : ℕ → ℕ) (a k c : ℕ) → a ≤ c → c < a + k
+    → ((i : ℕ) → a ≤ i → i < a + k → ¬ (i ≡ c) → f i ≡ 0) → sum f a k ≡ f c
 sum-single f a zero c lo hi others = absurd (omega arith)
 sum-single f a (suc k) c lo hi others =
     ⊎-elim
-    (λ e. let r = sum-zero f (suc a) k (λ i lo' hi'. others i (omega arith) (omega arith) (λ z. omega arith)) in let same = ap f e in omega arith)
+    (λ e. let r = sum-zero f (suc a) k (λ i lo' hi'. others i (omega arith) (omega arith) (λ z. omega arith)) in
+    let same = ap f e in omega arith)
     (λ more. let r = sum-single f (suc a) k c more (omega arith) (λ i lo' hi' ne. others i (omega arith) (omega arith) ne) in
     let here = others a (omega arith) (omega arith) (λ z. omega arith) in omega arith)
     (eq-or-lt-of-le lo)

@@ -1,22 +1,24 @@
 -- The checker's walk along a chain, number by number, and along the chains.
 --     Following         a walk that stands at a number, with so many steps left: what is left of the chain gives the answer
 --     following-start, -zero, -spent, -bad, -on    at its start; at 0; with no step left; at a number that may not stand there; at another
+--     range-wrong       a chain on which a number is out of range, or that does not end: something is wrong with it
 --     Passing           a pass that stands at a bucket, with so many steps left: the buckets that are left give the answer
 --     passing-start, -wrong, -on, -end             at its start; a chain with something wrong; a chain without; after the last
 -- Assumes nothing.
 use mathlib.Core.Path.{_≡_, refl, sym, ap, _∙_}
-use mathlib.Core.Bool.{Bool, true, false, cond}
+use mathlib.Core.Bool.{Bool, true, false, _&&_}
 use mathlib.Core.List.{List, [], _∷_}
 use mathlib.Core.Option.{Option, some, none}
 use Prim.Native.Nat.{ℕ, zero, suc, _+_, _-_, _≤_, _<_}
 use native.Mathlib.Numerals.{add-one}
 use native.Mathlib.Omega.{arith}
-use lib.Dec.{eqb}
+use lib.Dec.{leb, ltb, eqb}
 use borrow.Author.Tests.{ne-eqb}
 use Rattle.lookup.specs.Pick.{from}
+use Rattle.lookup.proofs.Picking.{by-test, and-left, and-right}
 use Rattle.sysv_check.specs.declared.chains.Steps.{Steps}
 use Rattle.sysv_check.specs.declared.chains.Steps.the-variants.{Left, Wrong}
-use Rattle.sysv_check.specs.Pass.{stepsOf, follow, onward, followAll, spent, allSpent}
+use Rattle.sysv_check.specs.Pass.{inRange, mayStand, stepsOf, ended, follow, followAll, spent, allSpent}
 
 module _ (chain : ℕ → ℕ) (may : ℕ → Bool) (left start : ℕ) where
   abbrev along : Steps
@@ -64,6 +66,18 @@ module _ (chain : ℕ → ℕ) (may : ℕ → Bool) (left start : ℕ) where
           by zero m h = absurd (omega arith)
           by (suc k) m h = let s : suc k - 1 ≡ k = omega arith in rw s (rw (ne-eqb i 0 there, good) at h)
 
+-- a walk that goes wrong by one test goes wrong by every stricter one
+stricter : (chain : ℕ → ℕ) (p q : ℕ → Bool) → ((i : ℕ) → q i ≡ true → p i ≡ true) → (k i : ℕ) → follow chain p k i ≡ none
+    → follow chain q k i ≡ none
+unfolding follow
+stricter chain p q weak zero i h = h
+stricter chain p q weak (suc k) i h =
+    by-test (eqb i 0)
+    (λ e. rw e (rw e at h))
+    (λ e. by-test (q i)
+    (λ g. rw (e, g) (stricter chain p q weak k (chain i) (rw (e, weak i g) at h)))
+    (λ g. rw (e, g)))
+
 steps-none : (o : Option ℕ) → stepsOf o ≡ Wrong → o ≡ none
 steps-none none h = refl
 steps-none (some k) h = cc
@@ -71,6 +85,22 @@ steps-none (some k) h = cc
 steps-some : (o : Option ℕ) (k : ℕ) → stepsOf o ≡ Left k → o ≡ some k
 steps-some none k h = cc
 steps-some (some j) k h = let z : j ≡ k = cc in ap (λ x. some x) z
+
+not-ended : (o : Option ℕ) → ended (stepsOf o) ≡ false → o ≡ none
+not-ended none h = refl
+not-ended (some k) h = cc
+
+ranged : (home : ℕ → ℕ) (low count b i : ℕ) → mayStand home low count b i ≡ true → inRange low count i ≡ true
+ranged home low count b i h =
+    let rest = and-right (leb low i) (ltb i count && eqb (home i) b) h in
+    rw (and-left (leb low i) (ltb i count && eqb (home i) b) h, and-left (ltb i count) (eqb (home i) b) rest)
+
+pub range-wrong : (chain home : ℕ → ℕ) (low count b k i : ℕ)
+    → ended (stepsOf (follow chain (inRange low count) k i)) ≡ false
+    → stepsOf (follow chain (mayStand home low count b) k i) ≡ Wrong
+range-wrong chain home low count b k i h =
+    ap stepsOf (stricter chain (inRange low count) (mayStand home low count b) (ranged home low count b) k i
+    (not-ended (follow chain (inRange low count) k i) h))
 
 module _ (chain bucket : ℕ → ℕ) (may : (b i : ℕ) → Bool) (buckets steps : ℕ) where
   abbrev whole : Bool

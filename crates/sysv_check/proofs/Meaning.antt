@@ -1,10 +1,10 @@
--- T3 in plain words, without a bound on steps: each chain is a list of numbers that comes to 0, and in that of bucket b number i stands once, if it is a
--- symbol from low on with a hash of that bucket, and else not.
+-- T3 in plain words, without a bound on steps: each chain is a list of numbers that comes to 0, and in that of bucket b
+-- number i stands once, if it is a symbol from low on with a hash of that bucket, and else not.
 --     Holds                   that, of the chain of a bucket
 --     t3-means, means-t3      T3 is that of every bucket
 -- Assumes nothing.
 use mathlib.Core.Path.{_≡_, _∙_}
-use mathlib.Core.Bool.{Bool, true, false, cond, _&&_}
+use mathlib.Core.Bool.{true}
 use mathlib.Core.List.{List}
 use Prim.Native.Nat.{ℕ, _-_, _≤_, _<_}
 use native.Mathlib.Omega.{arith}

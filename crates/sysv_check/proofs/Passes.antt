@@ -5,9 +5,9 @@
 --     count-read                symbols that were counted
 -- Assumes nothing.
 use Prim.Native.Nat.{ℕ, _+_, _-_, _*_, _/_, _%_, _≤_}
-use mathlib.Core.Path.{_≡_, refl, sym, ap, _∙_}
+use mathlib.Core.Path.{_≡_, refl, sym, _∙_}
 use mathlib.Core.Bool.{Bool, true, false, cond, not, _&&_}
-use mathlib.Core.List.{List, [], _∷_}
+use mathlib.Core.List.{List}
 use mathlib.Core.Option.{Option, some, none}
 use lib.Dec.{leb, ltb, eqb}
 use lib.ListN.{length}
@@ -117,7 +117,9 @@ pub count-read : (class : Class) (symbols : List ℕ) (n : ℕ) → symbolCount 
     → n ≡ length symbols / symbolSize class
 count-read class symbols n h = by (ltb limit (length symbols)) h
   where
-    by : (b : Bool) → cond b (SymbolCount.Refused tooLong) (SymbolCount.Symbols (length symbols / symbolSize class)) ≡ SymbolCount.Symbols n
+    by : (b : Bool)
+        → cond b (SymbolCount.Refused tooLong) (SymbolCount.Symbols (length symbols / symbolSize class))
+        ≡ SymbolCount.Symbols n
         → n ≡ length symbols / symbolSize class
     by true e = cc
     by false e = cc

@@ -2,10 +2,10 @@
 --     Shape, shape      T1
 --     Placed, placed    T3 at a bucket: its chain comes to 0, and each number stands there as often as is right
 --     Ruled, rules      all of them
+--     right-both        why a number stands on a chain, by how often it does
 -- Assumes nothing.
 use mathlib.Core.Path.{_≡_, refl}
 use mathlib.Core.Bool.{Bool, true, false, cond, not, _&&_}
-use mathlib.Core.List.{List}
 use Prim.Native.Nat.{ℕ, _-_, _≤_, _<_}
 use native.Mathlib.Omega.{arith}
 use lib.Dec.{leb, eqb}
@@ -61,6 +61,12 @@ module _ (t : Table) (low : ℕ) where
     pub shaped : Shape
     pub readable : (i : ℕ) → low ≤ i → i < t .count → not (isNone (t .name i)) ≡ true
     pub each : (b : ℕ) → b < t .bucketCount → Placed b
+
+-- what stands somewhere at least once is right there
+pub right-both : (b c : Bool) (k often : ℕ) → 0 < k → k ≡ cond (b && c) often 0 → (b ≡ true) × (c ≡ true)
+right-both true true k often more h = (refl, refl)
+right-both true false k often more h = absurd (omega arith)
+right-both false c k often more h = absurd (omega arith)
 
 none-broken : (a b c : Bool)
     → cond (not a) (Broken 1) (cond (not b) (Broken 2) (cond (not c) (Broken 3) Accepted)) ≡ Accepted

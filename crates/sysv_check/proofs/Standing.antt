@@ -3,8 +3,7 @@
 --     stands      every symbol from low on with a name, on the chain of its hash
 -- Assumes nothing.
 use Prim.Native.Nat.{ℕ, _+_, _-_, _%_, _≤_, _<_}
-use mathlib.Core.Path.{_≡_, refl, ap, _∙_}
-use mathlib.Core.Bool.{Bool, true, false, cond, _&&_}
+use mathlib.Core.Path.{_≡_, ap, _∙_}
 use mathlib.Core.List.{List, []}
 use mathlib.Core.Option.{Option, some, Option·getD}
 use native.Mathlib.Omega.{arith}
@@ -17,12 +16,7 @@ use Rattle.sysv_check.specs.Count.{times}
 use Rattle.sysv_check.specs.Rules.{hashOf, bucketOf}
 use Rattle.sysv_check.proofs.Counting.{times-all}
 use Rattle.sysv_check.proofs.Chained.{chain-range}
-use Rattle.sysv_check.proofs.Ruled.{Ruled}
-
-right-low : (b c : Bool) (k : ℕ) → 0 < k → k ≡ cond (b && c) 1 0 → b ≡ true
-right-low true true k more h = refl
-right-low true false k more h = absurd (omega arith)
-right-low false c k more h = absurd (omega arith)
+use Rattle.sysv_check.proofs.Ruled.{Ruled, right-both}
 
 module _ (t : Table) (low : ℕ) (r : Ruled t low) where
   pub on-chain : (b : ℕ) → b < t .bucketCount → (i : ℕ) → 0 < times i (numbers t b) → (low ≤ i) × (i < t .count)
@@ -34,8 +28,8 @@ module _ (t : Table) (low : ℕ) (r : Ruled t low) where
       let one-at-least = r .shaped .low-low in
       let high = r .shaped .low-high in
       let below : i < t .count = omega (arith, range .1) in (
-        leb-true low i (right-low (leb low i) (eqb (bucketOf t i) b) (times i (numbers t b)) more
-            (here .often i (range .0) below)),
+        leb-true low i (right-both (leb low i) (eqb (bucketOf t i) b) (times i (numbers t b)) _ more
+            (here .often i (range .0) below) .0),
         below,
       )
 

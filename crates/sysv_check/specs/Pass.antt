@@ -1,15 +1,16 @@
--- What the checker's passes compute: T1 of the numbers, T2 by the place after the last zero, and T3 by one walk along every chain with as many steps as
--- there are symbols. That these are T1 to T3 is proved (`proofs/Counted`, `Passes`).
+-- What the checker's passes compute: T1 of the numbers, T2 by the place after the last zero, and T3 by one walk along every
+-- chain with as many steps as there are symbols. That these are T1 to T3 is proved (`proofs/Readings`, `Counted`, `Passes`).
 --     shaped                  T1
 --     startsBelow             whether a symbol's name starts below a place
---     mayStand                whether a number may stand on the chain of a bucket
---     Steps, stepsOf          what is left of the steps after a chain, or that something is wrong with it
+--     inRange                 whether a number may stand on a chain at all
+--     mayStand                whether it may stand on the chain of a bucket
+--     stepsOf, ended          what is left of the steps after a chain, or that something is wrong with it; whether nothing is
 --     follow                  along one chain with k steps left: the steps that are left after it, or none
 --     onward, followAll       along the chains of these buckets, with what is left
 --     spent                   nothing is left of the steps
 -- Assumes nothing.
 use Prim.Native.Nat.{ℕ, zero, suc}
-use mathlib.Core.Bool.{Bool, false, cond, _&&_}
+use mathlib.Core.Bool.{Bool, true, false, cond, _&&_}
 use mathlib.Core.List.{List, [], _∷_}
 use mathlib.Core.Option.{Option, some, none}
 use lib.Dec.{leb, ltb, eqb}
@@ -26,6 +27,9 @@ abbrev pub startsBelow : (end : ℕ) → SymbolAt → Bool
 startsBelow end (At symbol) = ltb (symbol .name) end
 startsBelow end (Refused r) = false
 
+abbrev pub inRange : (low count i : ℕ) → Bool
+inRange low count i = leb low i && ltb i count
+
 -- `home i`: the bucket of number i
 abbrev pub mayStand : (home : ℕ → ℕ) → (low count b i : ℕ) → Bool
 mayStand home low count b i = leb low i && (ltb i count && eqb (home i) b)
@@ -33,6 +37,10 @@ mayStand home low count b i = leb low i && (ltb i count && eqb (home i) b)
 abbrev pub stepsOf : Option ℕ → Steps
 stepsOf none = Wrong
 stepsOf (some k) = Left k
+
+abbrev pub ended : Steps → Bool
+ended Wrong = false
+ended (Left k) = true
 
 module _ (chain : ℕ → ℕ) where
   unfoldable pub follow : (may : ℕ → Bool) → (k i : ℕ) → Option ℕ

@@ -1,4 +1,5 @@
--- The rules of the SysV checker, over a table as numbers and functions (01, "SysV checker"). `low` is the first symbol that must be found.
+-- The rules of the SysV checker, over a table as numbers and functions (01, "SysV checker"). `low` is the first symbol that
+-- must be found.
 --     firstGlobal         that symbol: 1
 --     hashOf, bucketOf    the hash of a symbol, and its bucket
 --     ends                whether a chain comes to 0

@@ -9,7 +9,7 @@ ghost use Prim.Native.Nat.{_+_, _-_, _*_, _%_, _^_, _≤_, _<_};
 ghost use Rattle.endian.specs.Word.{wordAt};
 ghost use Rattle.lookup.specs.Wanted.{nameOf};
 ghost use Rattle.sysv_check.specs.Rules.{hashOf};
-ghost use Rattle.sysv_check.specs.Pass.{mayStand, stepsOf, allSpent};
+ghost use Rattle.sysv_check.specs.Pass.{inRange, mayStand, stepsOf, ended, allSpent};
 ghost use Rattle.sysv_check.specs.Pass.{follow as followed};
 
 // What is left of the steps after a chain, or that something is wrong with it.
@@ -43,6 +43,42 @@ fn may_stand(
     symbol_hash(class, order, symbols, strings, SymbolIndex(i)) % buckets == b
 }
 
+// Whether the chain from a number on comes to 0 in so many steps, by numbers from low on and below
+// the count. No name is looked at: a chain in a circle is found before a name on it is hashed twice.
+fn chain_ends(
+    order: Order,
+    table: &[u8],
+    chains_at: usize,
+    count: u32,
+    low: u32,
+    start: u32,
+    left: u32,
+) -> bool
+    requires { ⌜ «chains_at» < 2 ^ 40 ⌝ }
+    ensures { λ r. ⌜ r
+        ≡ ended (stepsOf (followed (λ j. wordAt order 4 (now (table .entry)) («chains_at» + j * 4)) (inRange low count)
+        left start)) ⌝ }
+{
+    let mut i: u32 = start;
+    let mut k: u32 = left;
+    loop {
+        if i == 0 {
+            break true;
+        }
+        if k == 0 {
+            break false;
+        }
+        if i < low {
+            break false;
+        }
+        if count <= i {
+            break false;
+        }
+        k -= 1;
+        i = u32_at(order, table, chains_at + i as usize * 4);
+    }
+}
+
 // Along the chain of bucket b from a number on, with so many steps left.
 fn follow(
     class: Class,
@@ -64,20 +100,30 @@ fn follow(
         (mayStand (λ j. hashOf (nameOf class order (now (symbols .entry)) (now (strings .entry))) j % buckets) low count b)
         left start) ⌝ }
 {
-    let mut i: u32 = start;
+    let mut number: u32 = start;
     let mut k: u32 = left;
     loop {
-        if i == 0 {
+        if number == 0 {
             break Steps::Left(k);
         }
         if k == 0 {
             break Steps::Wrong;
         }
-        if !may_stand(class, order, symbols, strings, buckets, count, low, b, i) {
+        if !may_stand(
+            class,
+            order,
+            symbols,
+            strings,
+            buckets,
+            count,
+            low,
+            b,
+            number,
+        ) {
             break Steps::Wrong;
         }
         k -= 1;
-        i = u32_at(order, table, chains_at + i as usize * 4);
+        number = u32_at(order, table, chains_at + number as usize * 4);
     }
 }
 
@@ -104,6 +150,9 @@ pub(crate) fn chains_hold(
     let mut b: u32 = 0;
     while b < buckets {
         let start = u32_at(order, table, 8 + b as usize * 4);
+        if !chain_ends(order, table, chains_at, count, low, start, left) {
+            return false;
+        }
         match follow(
             class,
             order,

@@ -1,6 +1,6 @@
 -- `sysv::find::lookup_at` meets its contract. The numbers of the header are the table's own. Assumes nothing.
-use Prim.Native.Nat.{ℕ, _%_, _<_}
-use mathlib.Core.Path.{_≡_, sym, _∙_}
+use Prim.Native.Nat.{_<_}
+use mathlib.Core.Path.{sym, _∙_}
 use native.Mathlib.Nat.{mod-lt}
 use native.Mathlib.Omega.{arith}
 use Rattle.sysv.proofs.Headers.{lookup-none, lookup-walk}

@@ -1,11 +1,11 @@
--- `sysv::find::walk` meets its contract. The invariant: the numbers that are left, after the probes that were made, give the answer. The measure is
--- what is left of the tests. Assumes nothing.
-use Prim.Native.Nat.{ℕ, _+_, _*_, _-_, _^_, _≤_, _<_}
-use mathlib.Core.Path.{_≡_, sym, _∙_}
+-- `sysv::find::walk` meets its contract. The invariant: the numbers that are left, after the probes that were made, give the
+-- answer. The measure is what is left of the tests. Assumes nothing.
+use Prim.Native.Nat.{_+_, _*_, _-_, _^_, _≤_, _<_}
+use mathlib.Core.Path.{sym, _∙_}
 use native.Mathlib.Omega.{arith}
 use borrow.Author.Needs.{needs}
 use Rattle.endian.specs.Word.{wordAt}
-use Rattle.lookup.specs.Wanted.{Asked, wantedIn}
+use Rattle.lookup.specs.Wanted.{wantedIn}
 use Rattle.sysv.proofs.Walking.{Walking, walking-start, walking-zero, walking-spent, walking-match, walking-past, walking-on}
 use Rattle.sysv.proofs.find.walk.Statement.{statement}
 use Rattle.sysv.proofs.find.walk.Tie as tie

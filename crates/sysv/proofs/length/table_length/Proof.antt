@@ -1,5 +1,5 @@
 -- `sysv::length::table_length` meets its contract. Each arm is told what `header_of` answered. Assumes nothing.
-use mathlib.Core.Path.{_≡_, sym, ap, _∙_}
+use mathlib.Core.Path.{sym, ap, _∙_}
 use borrow.Author.Needs.{needs}
 use Rattle.sysv.proofs.Headers.{countFrom, length-from}
 use Rattle.sysv.proofs.length.table_length.Statement.{statement}

@@ -1,14 +1,14 @@
--- `sysv_check::chains::chains_hold` meets its contract. The invariant: the buckets that are left, with the steps that are left, give the answer. The measure
--- is how many buckets are left. Assumes nothing.
-use Prim.Native.Nat.{ℕ, _+_, _-_, _*_, _%_, _≤_}
-use mathlib.Core.Path.{_≡_, sym, ap, _∙_}
-use native.Mathlib.Omega.{arith}
+-- `sysv_check::chains::chains_hold` meets its contract. The invariant: the buckets that are left, with the steps that are
+-- left, give the answer. The measure is how many buckets are left. Assumes nothing.
+use Prim.Native.Nat.{_+_, _-_, _*_, _%_}
+use mathlib.Core.Path.{_≡_, sym, _∙_}
 use borrow.Author.Needs.{needs}
+use borrow.Author.Tests.{not-true}
 use Rattle.endian.specs.Word.{wordAt}
 use Rattle.lookup.specs.Wanted.{nameOf}
 use Rattle.sysv_check.specs.Rules.{hashOf}
 use Rattle.sysv_check.specs.Pass.{mayStand}
-use Rattle.sysv_check.proofs.Following.{Passing, passing-start, passing-wrong, passing-on, passing-end}
+use Rattle.sysv_check.proofs.Following.{range-wrong, Passing, passing-start, passing-wrong, passing-on, passing-end}
 use Rattle.sysv_check.proofs.chains.chains_hold.Statement.{statement}
 use Rattle.sysv_check.proofs.chains.chains_hold.Tie as tie
 
@@ -45,6 +45,20 @@ add-u32-at c = search needs
 u32-at-requires : tie.Need-u32-at-requires Inv-loop μ-loop
 u32-at-requires c κs = search needs
 
+chain-ends-requires : tie.Need-chain-ends-requires Inv-loop μ-loop
+chain-ends-requires c κs = search needs
+
+returns : tie.Need-returns Inv-loop μ-loop
+returns c =
+    let read = c .before .before in
+    let at = read .before .before .loop in
+    let args = read .before .before .before .before .before .before .args in
+    passing-wrong _ _ _ _ _ (at .b) (at .left) (at .inv .1) (read .before .loop-test .taken)
+    (range-wrong (λ j. wordAt (args .order) 4 (args .table .now) (8 + args .buckets * 4 + j * 4))
+    (λ j. hashOf (nameOf (args .class) (args .order) (args .symbols .now) (args .strings .now)) j % args .buckets)
+    (args .low) (args .count) (at .b) (at .left) (wordAt (args .order) 4 (args .table .now) (8 + at .b * 4))
+    (sym (rw (at .inv .0, read .u32-at .ensures) at (c .before .chain-ends .ensures)) ∙ not-true _ (c .if1 .taken)))
+
 follow-requires : tie.Need-follow-requires Inv-loop μ-loop
 follow-requires c κs = search needs
 
@@ -54,12 +68,13 @@ enum-known-k c = search needs
 enum-told : tie.Need-enum-told Inv-loop μ-loop
 enum-told c = search needs
 
-returns : tie.Need-returns Inv-loop μ-loop
-returns c =
-    let read = c .before .before .before in
+returns-2 : tie.Need-returns-2 Inv-loop μ-loop
+returns-2 c =
+    let called = c .before .before in
+    let read = called .before .before .before in
     let at = read .before .before .loop in
     passing-wrong _ _ _ _ _ (at .b) (at .left) (at .inv .1) (read .before .loop-test .taken)
-    (sym (rw (at .inv .0, read .u32-at .ensures) at (c .before .before .follow .ensures)) ∙ c .enum-told .given .1)
+    (sym (rw (at .inv .0, read .u32-at .ensures) at (called .follow .ensures)) ∙ c .enum-told .given .1)
 
 add-b : tie.Need-add-b Inv-loop μ-loop
 add-b c = search needs
@@ -70,15 +85,15 @@ loop-less c = search needs
 loop-again : tie.Need-loop-again Inv-loop μ-loop
 loop-again c =
     let called = c .before .before .before in
-    let read = called .before in
+    let read = called .before .before .before in
     let at = read .before .before .loop in (
       at .inv .0,
       passing-on _ _ _ _ _ (at .b) (at .left) (at .inv .1) (read .before .loop-test .taken) _
           (sym (rw (at .inv .0, read .u32-at .ensures) at (called .follow .ensures)) ∙ c .before .k .given .1),
     )
 
-returns-2 : tie.Need-returns-2 Inv-loop μ-loop
-returns-2 c = passing-end _ _ _ _ _ (c .before .loop .b) (c .before .loop .left) (c .before .loop .inv .1) (c .loop-test .left)
+returns-3 : tie.Need-returns-3 Inv-loop μ-loop
+returns-3 c = passing-end _ _ _ _ _ (c .before .loop .b) (c .before .loop .left) (c .before .loop .inv .1) (c .loop-test .left)
 
 pub chains-hold-spec : {M : Type 1} → statement M
 chains-hold-spec =
@@ -94,11 +109,13 @@ chains-hold-spec =
     mul-u32-at
     add-u32-at
     u32-at-requires
+    chain-ends-requires
+    returns
     follow-requires
     enum-known-k
     enum-told
-    returns
+    returns-2
     add-b
     loop-less
     loop-again
-    returns-2)
+    returns-3)

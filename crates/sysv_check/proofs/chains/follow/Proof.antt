@@ -1,7 +1,7 @@
--- `sysv_check::chains::follow` meets its contract. The invariant: what is left of the chain, with the steps that are left, gives the answer. The measure is
--- the steps that are left. Assumes nothing.
-use Prim.Native.Nat.{ℕ, _+_, _*_, _%_, _^_, _<_}
-use mathlib.Core.Path.{_≡_, sym, _∙_}
+-- `sysv_check::chains::follow` meets its contract. The invariant: what is left of the chain, with the steps that are left,
+-- gives the answer. The measure is the steps that are left. Assumes nothing.
+use Prim.Native.Nat.{_+_, _*_, _%_, _^_, _<_}
+use mathlib.Core.Path.{sym, _∙_}
 use native.Mathlib.Omega.{arith}
 use borrow.Author.Needs.{needs}
 use borrow.Author.Tests.{not-true, not-false}
@@ -14,13 +14,13 @@ use Rattle.sysv_check.proofs.chains.follow.Statement.{statement}
 use Rattle.sysv_check.proofs.chains.follow.Tie as tie
 
 abbrev Inv-loop : tie.InvT-loop
-Inv-loop class order table symbols strings buckets chains-at count low b start left i₀ k₀ i k =
-    (i < 2 ^ 32)
+Inv-loop class order table symbols strings buckets chains-at count low b start left number₀ k₀ number k =
+    (number < 2 ^ 32)
     × Following (λ j. wordAt order 4 table (chains-at + j * 4))
-    (mayStand (λ j. hashOf (nameOf class order symbols strings) j % buckets) low count b) left start i k
+    (mayStand (λ j. hashOf (nameOf class order symbols strings) j % buckets) low count b) left start number k
 
 abbrev μ-loop : tie.MeasureT-loop
-μ-loop class order table symbols strings buckets chains-at count low b start left i₀ k₀ i k = k
+μ-loop class order table symbols strings buckets chains-at count low b start left number₀ k₀ number k = k
 
 loop-holds : tie.Need-loop-holds Inv-loop μ-loop
 loop-holds c = (search needs, following-start _ _ _ _)
@@ -52,26 +52,26 @@ loop-again c =
     let nonzero = tested .before .before in
     let at = nonzero .before .loop in (
       search needs,
-      rw (c .u32-at .ensures) (following-on _ _ _ _ (at .i) (at .k) (at .inv .1) (nonzero .if1 .left) (omega arith)
+      rw (c .u32-at .ensures) (following-on _ _ _ _ (at .number) (at .k) (at .inv .1) (nonzero .if1 .left) (omega arith)
           (sym (tested .may-stand .ensures) ∙ not-false _ (c .before .if3 .left))),
     )
 
 returns : tie.Need-returns Inv-loop μ-loop
 returns c =
     let at = c .before .loop in
-    following-zero _ _ _ _ (at .i) (at .k) (at .inv .1) (c .if1 .taken)
+    following-zero _ _ _ _ (at .number) (at .k) (at .inv .1) (c .if1 .taken)
 
 returns-2 : tie.Need-returns-2 Inv-loop μ-loop
 returns-2 c =
     let nonzero = c .before in
     let at = nonzero .before .loop in
-    following-spent _ _ _ _ (at .i) (at .k) (at .inv .1) (nonzero .if1 .left) (c .if2 .taken)
+    following-spent _ _ _ _ (at .number) (at .k) (at .inv .1) (nonzero .if1 .left) (c .if2 .taken)
 
 returns-3 : tie.Need-returns-3 Inv-loop μ-loop
 returns-3 c =
     let nonzero = c .before .before .before in
     let at = nonzero .before .loop in
-    following-bad _ _ _ _ (at .i) (at .k) (at .inv .1) (nonzero .if1 .left)
+    following-bad _ _ _ _ (at .number) (at .k) (at .inv .1) (nonzero .if1 .left)
     (sym (c .before .may-stand .ensures) ∙ not-true _ (c .if3 .taken))
 
 pub follow-spec : {M : Type 1} → statement M

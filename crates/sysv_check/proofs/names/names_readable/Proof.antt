@@ -1,9 +1,8 @@
--- `sysv_check::names::names_readable` meets its contract. The invariant: the numbers that are left give the answer. The measure is how many are left.
--- Assumes nothing.
-use Prim.Native.Nat.{ℕ, _-_, _<_}
+-- `sysv_check::names::names_readable` meets its contract. The invariant: the numbers that are left give the answer. The
+-- measure is how many are left. Assumes nothing.
+use Prim.Native.Nat.{ℕ, _-_}
 use mathlib.Core.Path.{_≡_, sym, ap, _∙_}
 use mathlib.Core.Bool.{not}
-use native.Mathlib.Omega.{arith}
 use borrow.Author.Needs.{needs}
 use borrow.Author.Tests.{not-true, not-false}
 use Rattle.symbol.specs.Table.{symbolAt}

@@ -1,5 +1,5 @@
 -- `sysv_check::names::part_hash` meets its contract. A part of the strings is not too long. Assumes nothing.
-use mathlib.Core.Path.{_≡_, sym, _∙_}
+use mathlib.Core.Path.{sym, _∙_}
 use Rattle.sysv_check.proofs.Readings.{part-hash, part-refused}
 use borrow.Author.Needs.{needs}
 use Rattle.sysv_check.proofs.names.part_hash.Statement.{statement}

@@ -1,5 +1,5 @@
 -- `sysv_check::names::starts_below` meets its contract. Each arm is told what `symbol_at` answered. Assumes nothing.
-use mathlib.Core.Path.{_≡_, sym, ap, _∙_}
+use mathlib.Core.Path.{sym, ap, _∙_}
 use Rattle.sysv_check.specs.Pass.{startsBelow}
 use borrow.Author.Needs.{needs}
 use Rattle.sysv_check.proofs.names.starts_below.Statement.{statement}

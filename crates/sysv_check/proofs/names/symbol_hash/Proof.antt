@@ -1,5 +1,5 @@
 -- `sysv_check::names::symbol_hash` meets its contract. Each arm is told what `symbol_name` answered. Assumes nothing.
-use mathlib.Core.Path.{_≡_, sym, _∙_}
+use mathlib.Core.Path.{sym, _∙_}
 use Rattle.sysv_check.proofs.Readings.{name-inside, hash-read, hash-unread}
 use borrow.Author.Needs.{needs}
 use Rattle.sysv_check.proofs.names.symbol_hash.Statement.{statement}

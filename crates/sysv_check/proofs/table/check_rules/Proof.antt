@@ -1,6 +1,5 @@
 -- `sysv_check::table::check_rules` meets its contract. Each return is told what the passes answered. Assumes nothing.
-use mathlib.Core.Path.{_≡_, sym, _∙_}
-use mathlib.Core.Bool.{true, false}
+use mathlib.Core.Path.{sym, _∙_}
 use borrow.Author.Tests.{not-true, not-false}
 use Rattle.sysv_check.proofs.Passes.{shaped-facts, check-1, check-2, check-3, check-all}
 use borrow.Author.Needs.{needs}
