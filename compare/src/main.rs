@@ -16,6 +16,7 @@ mod lookups;
 mod notes;
 mod plain;
 mod record;
+mod record_tables;
 mod report;
 mod strings;
 mod symbols;
