@@ -1,6 +1,6 @@
 -- The cases that document 01 marks [P] (its section "Cases"), in its order: what the rules give, beside what the document says.
 -- Assumes nothing.
-use Prim.Native.Nat.{ℕ}
+use Prim.Native.Nat.{ℕ, _/_, _%_}
 use mathlib.Core.Path.{_≡_, refl}
 use mathlib.Core.Bool.{Bool, true, false}
 use mathlib.Core.List.{List, [], _∷_, _++_, map}
@@ -8,8 +8,14 @@ use lib.ListN.{replicate}
 use Rattle.endian.specs.declared.kinds.Class.the-variants.{Elf32, Elf64}
 use Rattle.endian.specs.declared.kinds.Order.{Order}
 use Rattle.endian.specs.declared.kinds.Order.the-variants.{Little, Big}
+use Rattle.endian.specs.First.{first}
 use Rattle.endian.specs.Refusals.{noteShort, badNoteDescriptor, badNoteAlignment, badProperty}
 use Rattle.endian.specs.Word.{wordAt}
+use Rattle.gnu.specs.Find.{gnuFind}
+use Rattle.gnu.specs.Table.{bloomFirst, bloomSecond, bloomFilter, startOf, lookup}
+use Rattle.lookup.specs.declared.Answer.{Answer}
+use Rattle.lookup.specs.declared.Answer.the-variants.{Found, Missing}
+use Rattle.lookup.specs.Wanted.{nameOf, symbolIndex, wantedIn}
 use Rattle.name_hash.specs.Hash.{gnuHash, sysvHash}
 use Rattle.note.specs.declared.properties.Property.{Property}
 use Rattle.note.specs.declared.properties.PropertyStep.the-variants.{Property as Step·Property, Refused}
@@ -17,6 +23,8 @@ use Rattle.note.specs.declared.reader.Note.{Note}
 use Rattle.note.specs.Notes.{noteStep}
 use Rattle.note.specs.Properties.{propertyStep, start, to}
 use Rattle.note.specs.Walk.{none, onto, ended, stopped, notesWithin, notesFrom, sectionNotes}
+use Rattle.strings.specs.Strings.{readable}
+use Rattle.symbol.specs.Table.{symbolAt}
 use Rattle.version.specs.declared.table.Need.{Need}
 use Rattle.version.specs.Table.{storedAt, valid, entryAt, versymAt, matching}
 
@@ -43,10 +51,47 @@ sysv-hashes = refl
 zeros : ℕ → List ℕ
 zeros n = replicate n 0
 
--- a number below 256 in 4 bytes
+-- a number in 4 bytes
 four : Order → ℕ → List ℕ
-four Little n = n ∷ zeros 3
-four Big n = zeros 3 ++ (n ∷ [])
+four Little n = n % 256 ∷ n / 256 % 256 ∷ n / 65536 % 256 ∷ n / 16777216 % 256 ∷ []
+four Big n = n / 16777216 % 256 ∷ n / 65536 % 256 ∷ n / 256 % 256 ∷ n % 256 ∷ []
+
+fours : Order → List ℕ → List ℕ
+fours order [] = []
+fours order (n ∷ ns) = four order n ++ fours order ns
+
+-- ELF32, symbols null and `a`, base 1, one bucket holding 1, shift 5, value 177671: the table of a bloom word, and its symbols and their strings
+gnu-table : Order → (bloom : ℕ) → List ℕ
+gnu-table order bloom = fours order (1 ∷ 1 ∷ 1 ∷ 5 ∷ bloom ∷ 1 ∷ 177671 ∷ [])
+
+gnu-symbols : Order → List ℕ
+gnu-symbols order = zeros 16 ++ (four order 1 ++ zeros 12)
+
+gnu-strings : List ℕ
+gnu-strings = 0 ∷ (a ++ (0 ∷ []))
+
+-- a lookup of a name by its hash, without versions
+gnu-find : Order → (bloom : ℕ) → List ℕ → Answer
+gnu-find order bloom name =
+    gnuFind Elf32 order
+    (record {
+      table = gnu-table order bloom;
+      symbols = gnu-symbols order;
+      strings = gnu-strings;
+      versyms = [];
+      store = [];
+      versionStrings = [];
+    })
+    (record { name = name; need = Need.Any; needName = [] }) (gnuHash name)
+
+-- bloom 65600: `a` found at 1, 1 probe; `b` none, 0 probes; bloom all ones: `b` none, 1 probe
+gnu-lookups : (order : Order)
+    → (gnu-find order 65600 a ≡ Found (symbolIndex 1) 1)
+    × (gnu-find order 65600 b ≡ Missing 0)
+    × (gnu-find order 0xffff_ffff b ≡ Missing 1)
+unfolding zeros four fours gnu-table gnu-symbols gnu-strings gnu-find gnuFind gnuHash lookup bloomFilter bloomFirst bloomSecond startOf wantedIn nameOf symbolAt readable first wordAt storedAt valid entryAt versymAt matching
+gnu-lookups Little = (refl, refl, refl)
+gnu-lookups Big = (refl, refl, refl)
 
 -- a note of type 0, by the size of its name, and the start and the size of its descriptor
 note : (namesz descriptor descsz : ℕ) → Note

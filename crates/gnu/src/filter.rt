@@ -48,7 +48,7 @@ fn bloom_word(class: Class, order: Order, table: &[u8], bloom_count: u32, hash: 
 }
 
 // What the bloom filter says of a hash.
-pub(crate) fn bloom_filter(
+pub fn bloom_filter(
     class: Class,
     order: Order,
     table: &[u8],

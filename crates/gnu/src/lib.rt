@@ -1,5 +1,5 @@
 // The GNU hash table: a lookup with its probes, and the length of the symbol table.
-mod filter;
+pub mod filter;
 pub mod find;
 pub mod header;
 pub mod length;

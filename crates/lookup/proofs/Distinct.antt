@@ -65,7 +65,7 @@ module _ (class : Class) (order : Order) (p : Parts) (asked asked′ : Asked) (h
       (asked′ .needName) fits fits′ in
       record {
         name = some-one (asked .name) (asked′ .name)
-        (sym (wanted-named class order p asked i h) ∙ wanted-named class order p asked′ i h′);
+            (sym (wanted-named class order p asked i h) ∙ wanted-named class order p asked′ i h′);
         versionName = one .1;
         versionHash = one .0;
       }

@@ -61,5 +61,13 @@ pub fn is_wanted(
     if !has_name(class, order, symbols, strings, symbol, name) {
         return false;
     }
-    matches(order, versyms, store, version_strings, symbol, need, need_name)
+    matches(
+        order,
+        versyms,
+        store,
+        version_strings,
+        symbol,
+        need,
+        need_name,
+    )
 }

@@ -1,0 +1,189 @@
+-- The passes over the runs, turn by turn: their invariants, and the laws of these.
+--     Passing     the pass for misplaced symbols, at symbol i: what it knows of the symbol before, and that the rest gives the answer
+--     passing-start, passing-next, passing-end
+--     least-bound, lesser-both    the lower of two answers, each a bucket or the number of buckets
+--     Chaining    the pass for the longest chain, at symbol i: where its chain starts, and that the rest gives the answer
+--     chaining-start, chaining-next, chaining-end
+-- Assumes nothing.
+use Prim.Native.Nat.{ℕ, zero, suc, _+_, _-_, _≤_, _<_, min, max}
+use mathlib.Core.Path.{_≡_, refl, sym, ap, _∙_}
+use mathlib.Core.Bool.{Bool, true, false, not, cond}
+use mathlib.Core.List.{map}
+use mathlib.Core.Logic.{_⊎_, inl, inr}
+use mathlib.Core.Option.{Option, some, none, Option·getD}
+use native.Mathlib.Nat.{mod-lt, sub-self, le-refl}
+use native.Mathlib.Numerals.{add-one}
+use native.Mathlib.Omega.{arith}
+use lib.Dec.{eqb}
+use borrow.Author.Tests.{eq-eqb, ne-eqb}
+use Rattle.lookup.specs.Pick.{from, largest}
+use Rattle.lookup.proofs.Picking.{by-test, either}
+use Rattle.gnu.specs.Table.{Table, odd}
+use Rattle.gnu_rules.specs.Rules.{hashOf, bucketOf}
+use Rattle.gnu_check.specs.Runs.{lesser, runStart, misplaced, leastMisplaced, chainStart, longestChain}
+
+-- ---- misplaced symbols
+
+lesser-getD : (b n : ℕ) (o : Option ℕ) → b ≤ n → Option·getD (lesser (some b) o) n ≡ min b (Option·getD o n)
+lesser-getD b n none low = omega arith
+lesser-getD b n (some c) low = refl
+
+pub lesser-both : (n : ℕ) (o o′ : Option ℕ) → Option·getD o n ≤ n → Option·getD o′ n ≤ n
+    → min (Option·getD o n) (Option·getD o′ n) ≡ Option·getD (lesser o o′) n
+lesser-both n none none low low′ = omega arith
+lesser-both n none (some b) low low′ = omega arith
+lesser-both n (some a) none low low′ = omega arith
+lesser-both n (some a) (some b) low low′ = refl
+
+pub flip : (b : Bool) (x y : ℕ) → cond b x y ≡ cond (not b) y x
+flip true x y = refl
+flip false x y = refl
+
+module _ (t : Table) where
+  -- nothing is known at symbol_base; past it, the bucket of the symbol before, and where its run starts
+  abbrev Behind : (start last i : ℕ) → Type 0
+  Behind start last i =
+      ((i ≡ t .base) × (last ≡ t .bucketCount)) ⊎ ((t .base < i) × (last ≡ bucketOf t (i - 1)) × (start ≡ runStart t (i - 1 - t .base)))
+
+  -- the lowest bucket of a misplaced symbol from i on, or the number of buckets
+  abbrev leastFrom : ℕ → ℕ
+  leastFrom i = Option·getD (leastMisplaced t i (t .count - i)) (t .bucketCount)
+
+  pub record Passing (best start last i : ℕ) : Type 0 where
+    pub low : t .base ≤ i
+    pub high : i ≤ t .count
+    pub bucket : best ≤ t .bucketCount
+    pub behind : Behind start last i
+    pub least : min best (leastFrom i) ≡ leastFrom (t .base)
+
+  module _ (some-bucket : 0 < t .bucketCount) where
+    start-is : (start last i : ℕ) → Behind start last i → cond (eqb last (bucketOf t i)) start i ≡ runStart t (i - t .base)
+    unfolding runStart
+    start-is start last i h =
+        either h
+        (λ h. let low = mod-lt (hashOf t i) some-bucket in
+        rw (ne-eqb last (bucketOf t i) (λ e. omega arith), h .0, sub-self))
+        (λ h.
+        let k = i - 1 - t .base in
+        let next : i - t .base ≡ suc k = omega arith in
+        let here : t .base + suc k ≡ i = omega arith in
+        let before : t .base + k ≡ i - 1 = omega arith in
+        rw (next, here, before, h .1, h .2))
+
+    least-step : (best i : ℕ) → i < t .count
+        → min best (leastFrom i) ≡ min (cond (misplaced t i) (min best (bucketOf t i)) best) (leastFrom (i + 1))
+    unfolding leastMisplaced
+    least-step best i more =
+        let one : t .count - i ≡ suc (t .count - (i + 1)) = omega arith in
+        let low = mod-lt (hashOf t i) some-bucket in
+        by-test (misplaced t i)
+        (λ e. rw (one, e, add-one i, lesser-getD (bucketOf t i) (t .bucketCount) (leastMisplaced t (suc i) (t .count - suc i)) (omega arith)) (omega arith))
+        (λ e. rw (one, e, add-one i))
+
+    -- no bucket is past the number of buckets
+    pub least-bound : (i k : ℕ) → Option·getD (leastMisplaced t i k) (t .bucketCount) ≤ t .bucketCount
+    unfolding leastMisplaced
+    least-bound i zero = le-refl _
+    least-bound i (suc k) =
+        let rest = least-bound (suc i) k in
+        let low = mod-lt (hashOf t i) some-bucket in
+        by-test (misplaced t i)
+        (λ e. rw (e, lesser-getD (bucketOf t i) (t .bucketCount) (leastMisplaced t (suc i) k) (omega arith)) (omega arith))
+        (λ e. rw e rest)
+
+    pub passing-start : t .base ≤ t .count → Passing (t .bucketCount) (t .base) (t .bucketCount) (t .base)
+    passing-start within =
+        let bound = least-bound (t .base) (t .count - t .base) in
+        record { low = le-refl _; high = within; bucket = le-refl _; behind = inl (refl, refl); least = omega arith }
+
+    module _ (best start last i : ℕ) (so-far : Passing best start last i) where
+      pub passing-next : i < t .count → (b start′ best′ : ℕ) → b ≡ bucketOf t i → start′ ≡ cond (eqb last b) start i
+          → best′ ≡ cond (eqb (t .bucket b) start′) best (min best b) → Passing best′ start′ b (i + 1)
+      passing-next more b start′ best′ mine begun chosen =
+          let begins : start′ ≡ runStart t (i - t .base) =
+          begun ∙ ap (λ b. cond (eqb last b) start i) mine ∙ start-is start last i (so-far .behind) in
+          let held : eqb (t .bucket b) start′ ≡ eqb (t .bucket (bucketOf t i)) (runStart t (i - t .base)) = rw (mine, begins) in
+          let best-is : best′ ≡ cond (misplaced t i) (min best (bucketOf t i)) best =
+          chosen ∙ rw (held, mine) (flip (eqb (t .bucket (bucketOf t i)) (runStart t (i - t .base))) best (min best (bucketOf t i))) in
+          let low = so-far .low in
+          let back : i + 1 - 1 ≡ i = omega arith in
+          record {
+            low = omega arith;
+            high = omega arith;
+            bucket = rw best-is (within (misplaced t i));
+            behind = inr (omega arith, rw back mine, rw back begins);
+            least = rw best-is (sym (least-step best i more) ∙ so-far .least);
+          }
+        where
+          within : (m : Bool) → cond m (min best (bucketOf t i)) best ≤ t .bucketCount
+          within true = omega (arith, so-far .bucket)
+          within false = so-far .bucket
+
+      pub passing-end : t .count ≤ i → best ≡ leastFrom (t .base)
+      unfolding leastMisplaced
+      passing-end past =
+          let none-left : t .count - i ≡ 0 = omega arith in
+          let nothing : leastFrom i ≡ t .bucketCount = rw none-left in
+          let low = so-far .bucket in
+          let same : best ≡ min best (leastFrom i) = omega arith in
+          same ∙ so-far .least
+
+-- ---- the longest chain
+
+module _ (base : ℕ) (value : ℕ → ℕ) (count : ℕ) where
+  -- the longest chain of those that symbols from i on are in, as far as these
+  abbrev longestFrom : ℕ → ℕ
+  longestFrom i = largest (map (λ i. suc i - chainStart base value (i - base)) (from i (count - i)))
+
+  pub record Chaining (longest start i : ℕ) : Type 0 where
+    pub low : base ≤ i
+    pub high : i ≤ count
+    pub short : longest ≤ i
+    pub begun : start ≡ chainStart base value (i - base)
+    pub most : max longest (longestFrom i) ≡ longestChain base value count
+
+  chain-start-le : (k : ℕ) → chainStart base value k ≤ base + k
+  unfolding chainStart
+  chain-start-le zero = omega arith
+  chain-start-le (suc k) =
+      let rest = chain-start-le k in
+      by-test (odd (value k)) (λ e. rw e (le-refl _)) (λ e. rw e (omega arith))
+
+  pub chaining-start : base ≤ count → Chaining 0 base base
+  unfolding chainStart
+  chaining-start within = record { low = le-refl _; high = within; short = omega arith; begun = rw sub-self; most = omega arith }
+
+  module _ (longest start i : ℕ) (so-far : Chaining longest start i) where
+    pub chaining-le : start ≤ i
+    chaining-le = let le = chain-start-le (i - base) in let low = so-far .low in omega (arith, so-far .begun)
+
+    pub chaining-next : i < count → (longest′ start′ : ℕ) → longest′ ≡ max longest (i + 1 - start)
+        → start′ ≡ cond (odd (value (i - base))) (i + 1) start → Chaining longest′ start′ (i + 1)
+    unfolding chainStart
+    chaining-next more longest′ start′ chosen next =
+        let low = so-far .low in
+        let k = i - base in
+        let after : i + 1 - base ≡ suc k = omega arith in
+        let place : base + suc k ≡ i + 1 = omega arith in
+        let one : count - i ≡ suc (count - (i + 1)) = omega arith in
+        let here : longestFrom i ≡ max (i + 1 - start) (longestFrom (i + 1)) = rw (one, ← (so-far .begun), add-one i) in
+        record {
+          low = omega arith;
+          high = omega arith;
+          short = rw chosen (max-le (so-far .short) chaining-le);
+          begun = next ∙ rw (after, place, so-far .begun);
+          most = rw chosen (assoc longest (i + 1 - start) (longestFrom (i + 1)) ∙ ap (max longest) (sym here) ∙ so-far .most);
+        }
+      where
+        assoc : (a b c : ℕ) → max (max a b) c ≡ max a (max b c)
+        assoc a b c = omega arith
+
+        max-le : longest ≤ i → start ≤ i → max longest (i + 1 - start) ≤ i + 1
+        max-le short le = omega arith
+
+    pub chaining-end : count ≤ i → longest ≡ longestChain base value count
+    chaining-end past =
+        let none-left : count - i ≡ 0 = omega arith in
+        let nothing : longestFrom i ≡ 0 = rw none-left in
+        let same : longest ≡ max longest (longestFrom i) = omega arith in
+        same ∙ so-far .most

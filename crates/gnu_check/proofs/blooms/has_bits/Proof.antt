@@ -1,0 +1,57 @@
+-- `gnu_check::blooms::has_bits` meets its contract: the filter lets the symbol's hash pass exactly if both bits are set. Assumes nothing.
+use mathlib.Core.Path.{_≡_, sym, _∙_}
+use borrow.Author.Needs.{needs}
+use Rattle.gnu.specs.declared.filter.Bloom.{Bloom}
+use Rattle.gnu_rules.specs.Rules.{bloomBitsSet}
+use Rattle.gnu_check.specs.Passes.{tableWith}
+use Rattle.gnu_check.proofs.Filtered.{passes, bits-set}
+use Rattle.gnu_check.proofs.blooms.has_bits.Statement.{statement}
+use Rattle.gnu_check.proofs.blooms.has_bits.Tie as tie
+
+symbol-hash-requires : tie.Need-symbol-hash-requires
+symbol-hash-requires c κs = search needs
+
+bloom-filter-requires : tie.Need-bloom-filter-requires
+bloom-filter-requires c κs = search needs
+
+enum-told : tie.Need-enum-told
+enum-told c = search needs
+
+enum-told-2 : tie.Need-enum-told-2
+enum-told-2 c = search needs
+
+enum-told-3 : tie.Need-enum-told-3
+enum-told-3 c = search needs
+
+-- what the filter answered is the rule
+bits : (c : tie.After-bloom-filter) (bloom : Bloom) → c .bloom-filter .result ≡ bloom
+    → let a = c .before .before .before .before .before .args in
+    passes bloom
+    ≡ bloomBitsSet (tableWith (a .class) (a .order) (a .table .now) (a .symbols .now) (a .strings .now) (a .layout) 0) (a .i)
+bits c bloom told =
+    let start = c .before .before .before .before .before in
+    let a = start .args in
+    bits-set (a .class) (a .order) (a .table .now) (a .symbols .now) (a .strings .now) (a .layout) (a .i) (start .pre .0) (start .pre .1)
+    (c .before .symbol-hash .result) (c .before .symbol-hash .ensures) bloom (sym told ∙ c .bloom-filter .ensures)
+
+returns : tie.Need-returns
+returns c = bits (c .before .before) _ (c .enum-told .given .1)
+
+returns-2 : tie.Need-returns-2
+returns-2 c = bits (c .before .before) _ (c .enum-told2 .given .1)
+
+returns-3 : tie.Need-returns-3
+returns-3 c = bits (c .before .before) _ (c .enum-told3 .given .1)
+
+pub has-bits-spec : {M : Type 1} → statement M
+has-bits-spec =
+    tie.close
+    (tie.spec
+    symbol-hash-requires
+    bloom-filter-requires
+    enum-told
+    enum-told-2
+    enum-told-3
+    returns
+    returns-2
+    returns-3)

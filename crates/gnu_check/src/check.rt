@@ -1,0 +1,163 @@
+// The checker: the refusals, then the rules in order.
+use super::blooms::lowest_unset;
+use super::ends::longest_chain;
+use super::ends::lowest_wrong_end;
+use super::names::lowest_unreadable;
+use super::runs::lowest_wrong_bucket;
+use super::values::lowest_wrong_value;
+use endian::kinds::Class;
+use endian::kinds::Order;
+use endian::refusals::LIMIT;
+use endian::refusals::TOO_LONG;
+use gnu::header::HeaderAt;
+use gnu::header::Layout;
+use gnu::header::header;
+use gnu_rules::Checked;
+use symbol::table::SymbolCount;
+use symbol::table::symbol_count;
+ghost use mathlib.Core.Bool.{true};
+ghost use mathlib.Core.Path.{_≡_};
+ghost use Prim.Native.Nat.{ℕ, _≤_, _<_};
+ghost use lib.ListN.{length};
+ghost use Rattle.endian.specs.Refusals.{limit};
+ghost use Rattle.gnu_rules.specs.Rules.{powerOfTwo, valueIsHash, gnuCheck};
+ghost use Rattle.gnu_rules.specs.Rules.{check as checkOf};
+ghost use Rattle.gnu_check.specs.Passes.{tableWith};
+ghost use Rattle.gnu_check.specs.Verdicts.{Sound, brokenHeader, fromNames, fromBuckets};
+
+// Whether a number is a power of two.
+fn is_power_of_two(n: u32) -> bool
+    ensures { λ r. ⌜ r ≡ powerOfTwo n ⌝ }
+{
+    let mut k: u32 = 0;
+    while k < 32 {
+        if n == 1 << k {
+            return true;
+        }
+        k += 1;
+    }
+    false
+}
+
+// The first broken rule of G1 to G5, or 0.
+fn broken_header(layout: Layout, count: u32) -> u8
+    ensures { λ r. ⌜ r ≡ brokenHeader layout count ⌝ }
+{
+    if layout.symbol_base < 1 {
+        return 1;
+    }
+    if count < layout.symbol_base {
+        return 1;
+    }
+    if !is_power_of_two(layout.bloom_count) {
+        return 2;
+    }
+    if layout.bucket_count < 1 {
+        return 3;
+    }
+    if 31 < layout.bloom_shift {
+        return 4;
+    }
+    if layout.value_count < count - layout.symbol_base {
+        return 5;
+    }
+    0
+}
+
+// G9, G10 and the longest chain.
+fn check_buckets(
+    class: Class,
+    order: Order,
+    table: &[u8],
+    symbols: &[u8],
+    strings: &[u8],
+    layout: Layout,
+    count: u32,
+) -> Checked
+    requires { ⌜ (0 < layout .«bucket_count»)
+        × (layout .«symbol_base» ≤ count)
+        × ((i : ℕ) → layout .«symbol_base» ≤ i → i < count
+        → valueIsHash (tableWith class order (now table) (now symbols) (now strings) layout count) i ≡ true) ⌝ }
+    ensures { λ r. ⌜ r
+        ≡ fromBuckets (tableWith class order (now (table .entry)) (now (symbols .entry)) (now (strings .entry)) layout count) ⌝ }
+{
+    let bucket = lowest_wrong_bucket(class, order, table, symbols, strings, layout, count);
+    if bucket != layout.bucket_count {
+        return Checked::Broken(9, bucket);
+    }
+    let symbol = lowest_wrong_end(class, order, table, symbols, strings, layout, count);
+    if symbol != count {
+        return Checked::Broken(10, symbol);
+    }
+    Checked::Accepted(longest_chain(order, table, layout, count))
+}
+
+// G6 to G8, then the buckets.
+fn check_symbols(
+    class: Class,
+    order: Order,
+    table: &[u8],
+    symbols: &[u8],
+    strings: &[u8],
+    layout: Layout,
+    count: u32,
+) -> Checked
+    requires { ⌜ Sound layout count × (length (now strings) ≤ limit) ⌝ }
+    ensures { λ r. ⌜ r
+        ≡ fromNames (tableWith class order (now (table .entry)) (now (symbols .entry)) (now (strings .entry)) layout count) ⌝ }
+{
+    let base = layout.symbol_base;
+    let unreadable = lowest_unreadable(class, order, symbols, strings, base, count);
+    if unreadable != count {
+        return Checked::Broken(6, unreadable);
+    }
+    let wrong = lowest_wrong_value(class, order, table, symbols, strings, layout, count);
+    if wrong != count {
+        return Checked::Broken(7, wrong);
+    }
+    let unset = lowest_unset(class, order, table, symbols, strings, layout, count);
+    if unset != count {
+        return Checked::Broken(8, unset);
+    }
+    check_buckets(class, order, table, symbols, strings, layout, count)
+}
+
+// The rules in order, of a table with this layout and so many symbols.
+fn check_table(
+    class: Class,
+    order: Order,
+    table: &[u8],
+    symbols: &[u8],
+    strings: &[u8],
+    layout: Layout,
+    count: u32,
+) -> Checked
+    requires { ⌜ length (now strings) ≤ limit ⌝ }
+    ensures { λ r. ⌜ r
+        ≡ checkOf (tableWith class order (now (table .entry)) (now (symbols .entry)) (now (strings .entry)) layout count) ⌝ }
+{
+    let broken = broken_header(layout, count);
+    if broken != 0 {
+        return Checked::Broken(broken, 0);
+    }
+    check_symbols(class, order, table, symbols, strings, layout, count)
+}
+
+// Whether a table keeps the rules over these symbols and strings: accepted, with the longest chain,
+// or the first broken rule with its lowest symbol or bucket, or 0. Refused in this order: a part that
+// is too long; as `gnu::header::header`. Linear in the table, the symbols and what the names add up to.
+pub fn check(class: Class, order: Order, table: &[u8], symbols: &[u8], strings: &[u8]) -> Checked
+    ensures { λ r. ⌜ r ≡ gnuCheck class order (now (table .entry)) (now (symbols .entry)) (now (strings .entry)) ⌝ }
+{
+    if LIMIT < strings.len() {
+        return Checked::Refused(TOO_LONG);
+    }
+    let counted = symbol_count(class, symbols);
+    let SymbolCount::Symbols(count) = counted else {
+        return Checked::Refused(TOO_LONG);
+    };
+    match header(class, order, table) {
+        HeaderAt::At(layout) => check_table(class, order, table, symbols, strings, layout, count),
+        HeaderAt::Refused(refusal) => Checked::Refused(refusal),
+    }
+}

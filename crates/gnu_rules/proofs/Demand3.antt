@@ -1,0 +1,203 @@
+-- Demand 3, of the bytes: what a table that the checker accepts promises of every lookup in it.
+--     Matches        a symbol's name is equal and its version matches
+--     LowestMatch    it is the lowest such symbol, from symbol_base on and below n
+--     Demand3        the demand's sentence, of an answer and the longest chain
+--     demand-3       in an accepted table, the answer of every lookup keeps it
+-- The demand's last sentence, that two different needs never get one symbol, holds of every table, accepted or not: `gnu`'s proofs have it.
+-- Assumes nothing.
+use Prim.Native.Nat.{ℕ, _+_, _-_, _/_, _≤_, _<_}
+use mathlib.Core.Path.{_≡_, refl, sym, ap, _∙_, subst}
+use mathlib.Core.Bool.{Bool, true, false, cond, _&&_, true≢false}
+use mathlib.Core.List.{List, [], _∷_, _++_}
+use mathlib.Core.Logic.{_↔_}
+use mathlib.Core.Option.{Option, some, none}
+use native.Mathlib.Omega.{arith}
+use lib.Dec.{ltb}
+use lib.ListN.{length}
+use Rattle.endian.specs.declared.kinds.Class.{Class}
+use Rattle.endian.specs.declared.kinds.Order.{Order}
+use Rattle.endian.specs.declared.refusals.Refusal.{Refusal}
+use Rattle.endian.specs.Refusals.{limit, anyLong}
+use Rattle.endian.specs.Word.{wordAt}
+use Rattle.strings.proofs.Meaning.{same-refl}
+use Rattle.name_hash.specs.Hash.{gnuHash}
+use Rattle.symbol.specs.declared.table.SymbolIndex.{SymbolIndex}
+use Rattle.symbol.specs.Table.{symbolSize}
+use Rattle.version.specs.Table.{matching}
+use Rattle.lookup.specs.declared.Answer.{Answer}
+use Rattle.lookup.specs.declared.Answer.the-variants.{Found, Missing, Refused}
+use Rattle.lookup.specs.Pick.{from, firstOf}
+use Rattle.lookup.specs.Wanted.{Parts, Asked, nameOf, symbolIndex, wanted, wantedIn, answerOf}
+use Rattle.lookup.proofs.Distinct.{wanted-named, wanted-fits}
+use Rattle.lookup.proofs.Picking.{from-all, none-firstOf, firstOf-lowest, Lowest, by-test}
+use Rattle.gnu.specs.Table.{hashed}
+use Rattle.gnu.specs.Layout.{fault}
+use Rattle.gnu.specs.Find.{gnuTable, gnuFind}
+use Rattle.gnu_rules.specs.declared.Checked.{Checked}
+use Rattle.gnu_rules.specs.declared.Checked.the-variants.{Accepted, Refused as Checked·Refused}
+use Rattle.gnu_rules.specs.Rules.{check, unlessRefused, gnuCheck}
+use Rattle.gnu_rules.proofs.Kept.{rules, accepted-longest}
+use Rattle.gnu_rules.proofs.Finds.{FindsLowest, finds-lowest}
+
+-- ---- the statement
+
+abbrev pub probesOf : Answer → ℕ
+probesOf (Found symbol probes) = probes
+probesOf (Missing probes) = probes
+probesOf (Refused r) = 0
+
+module _ (class : Class) (order : Order) (p : Parts) where
+  -- the header's second word
+  abbrev pub symbolBase : ℕ
+  symbolBase = wordAt order 4 (p .table) 4
+
+  -- the whole records
+  abbrev pub n : ℕ
+  n = length (p .symbols) / symbolSize class
+
+module _ (class : Class) (order : Order) (p : Parts) (asked : Asked) where
+  pub record Matches (k : ℕ) : Type 0 where
+    pub name : nameOf class order (p .symbols) (p .strings) k ≡ some (asked .name)
+    pub version : matching order (p .versyms) (p .store) (p .versionStrings) (symbolIndex k) (asked .need) (asked .needName) ≡ true
+
+  pub record LowestMatch (k : ℕ) : Type 0 where
+    pub from-base : symbolBase class order p ≤ k
+    pub below-n : k < n class order p
+    pub matches : Matches k
+    pub none-lower : (j : ℕ) → symbolBase class order p ≤ j → j < k → ¬ Matches j
+
+  pub record Demand3 (most : ℕ) (answer : Answer) : Type 0 where
+    -- the lookup is not refused
+    pub not-refused : (r : Refusal) → ¬ (answer ≡ Refused r)
+    -- it finds symbol k exactly if k is the lowest number, from symbol_base on and below n, whose name is equal and whose version matches
+    pub found : (k : ℕ) → (answer ≡ Found (symbolIndex k) (probesOf answer)) ↔ LowestMatch k
+    -- it finds nothing exactly if there is none
+    pub missing : (answer ≡ Missing (probesOf answer)) ↔ ((k : ℕ) → symbolBase class order p ≤ k → k < n class order p → ¬ Matches k)
+    -- its probes are at most the longest chain
+    pub few : probesOf answer ≤ most
+
+-- ---- the proof
+
+-- answers of two kinds are never the same
+found-refused : (symbol : SymbolIndex) (probes : ℕ) (r : Refusal) → ¬ (Found symbol probes ≡ Refused r)
+found-refused symbol probes r h = let z : _≡_ {A = ℕ} 0 1 = cc in omega arith
+
+found-missing : (symbol : SymbolIndex) (probes probes′ : ℕ) → ¬ (Found symbol probes ≡ Missing probes′)
+found-missing symbol probes probes′ h = let z : _≡_ {A = ℕ} 0 1 = cc in omega arith
+
+missing-refused : (probes : ℕ) (r : Refusal) → ¬ (Missing probes ≡ Refused r)
+missing-refused probes r h = let z : _≡_ {A = ℕ} 0 1 = cc in omega arith
+
+refused-accepted : (r : Refusal) (most : ℕ) → ¬ (Checked·Refused r ≡ Accepted most)
+refused-accepted r most h = let z : _≡_ {A = ℕ} 0 1 = cc in omega arith
+
+found-symbol : (i k probes probes′ : ℕ) → Found (symbolIndex i) probes ≡ Found (symbolIndex k) probes′ → i ≡ k
+found-symbol i k probes probes′ h = let z : symbolIndex i ≡ symbolIndex k = cc in ap (λ (x : SymbolIndex). x .0) z
+
+module _ (class : Class) (order : Order) (p : Parts) (asked : Asked) where
+  abbrev base : ℕ
+  base = symbolBase class order p
+
+  abbrev count : ℕ
+  count = n class order p
+
+  abbrev want : ℕ → Bool
+  want = wanted class order p asked
+
+  wanted-matches : (k : ℕ) → want k ≡ true → Matches class order p asked k
+  wanted-matches k h = record { name = wanted-named class order p asked k h; version = wanted-fits class order p asked k h }
+
+  not-wanted : (k : ℕ) → want k ≡ false → ¬ Matches class order p asked k
+  unfolding wantedIn
+  not-wanted k h m =
+      let yes : want k ≡ true = rw (m .name, same-refl (asked .name)) (m .version) in
+      true≢false (sym yes ∙ h)
+
+  lowest-match : (k : ℕ) → Lowest want base count k → LowestMatch class order p asked k
+  lowest-match k l =
+      record {
+        from-base = l .low;
+        below-n = l .high;
+        matches = wanted-matches k (l .passes);
+        none-lower = λ j lo hi. not-wanted j (l .none-lower j lo hi);
+      }
+
+  -- there is one lowest match
+  lowest-one : (j k : ℕ) → LowestMatch class order p asked j → LowestMatch class order p asked k → j ≡ k
+  lowest-one j k l m =
+      let not-less : ¬ (j < k) = λ less. m .none-lower j (l .from-base) less (l .matches) in
+      let not-more : ¬ (k < j) = λ less. l .none-lower k (m .from-base) less (m .matches) in
+      omega arith
+
+  module _ (most probes : ℕ) (few : probes ≤ most) where
+    found-lowest : (i : ℕ) → LowestMatch class order p asked i → Demand3 class order p asked most (Found (symbolIndex i) probes)
+    found-lowest i here =
+        record {
+          not-refused = λ r. found-refused _ _ r;
+          found = λ k. (
+            (λ h. subst (LowestMatch class order p asked) (found-symbol i k probes probes h) here),
+            λ l. ap (λ j. Found (symbolIndex j) probes) (lowest-one i k here l),
+          );
+          missing = ((λ h. absurd (found-missing _ _ _ h)), λ h. absurd (h i (here .from-base) (here .below-n) (here .matches)));
+          few = few;
+        }
+
+    found-none : ((k : ℕ) → base ≤ k → k < count → ¬ Matches class order p asked k) → Demand3 class order p asked most (Missing probes)
+    found-none nothing =
+        record {
+          not-refused = λ r. missing-refused _ r;
+          found = λ k. ((λ h. absurd (found-missing _ _ _ (sym h))), λ l. absurd (nothing k (l .from-base) (l .below-n) (l .matches)));
+          missing = ((λ h. nothing), λ h. refl);
+          few = few;
+        }
+
+    -- an answer by the first wanted symbol
+    by-first : base ≤ count → (o : Option ℕ) → firstOf want (from base (count - base)) ≡ o
+        → Demand3 class order p asked most (answerOf o probes)
+    by-first within none e =
+        found-none
+        (λ k lo hi. not-wanted k
+        (from-all (λ j. want j ≡ false) base (count - base) (none-firstOf want (from base (count - base)) e) k lo (omega arith)))
+    by-first within (some i) e =
+        let all : base + (count - base) ≡ count = omega arith in
+        found-lowest i (lowest-match i (rw all at (firstOf-lowest want base (count - base) i e)))
+
+-- an accepted check is an accepted table, with no fault of the header, and parts that are short enough
+record Accept (class : Class) (order : Order) (p : Parts) (most : ℕ) : Type 0 where
+  table : check (gnuTable class order p) ≡ Accepted most
+  header : fault class order (p .table) ≡ none
+  short : anyLong (p .table ∷ p .symbols ∷ p .strings ∷ []) ≡ false
+
+accept : (class : Class) (order : Order) (p : Parts) (most : ℕ)
+    → gnuCheck class order (p .table) (p .symbols) (p .strings) ≡ Accepted most → Accept class order p most
+unfolding gnuCheck
+accept class order p most h =
+    by-test (anyLong (p .table ∷ p .symbols ∷ p .strings ∷ []))
+    (λ long. absurd (refused-accepted _ most (rw long at h)))
+    (λ short. go (fault class order (p .table)) refl short (rw short at h))
+  where
+    go : (o : Option Refusal) → fault class order (p .table) ≡ o → anyLong (p .table ∷ p .symbols ∷ p .strings ∷ []) ≡ false
+        → unlessRefused o (check (gnuTable class order p)) ≡ Accepted most → Accept class order p most
+    go none none-there short h = record { table = h; header = none-there; short = short }
+    go (some r) there short h = absurd (refused-accepted r most h)
+
+all-short : (xs ys : List (List ℕ)) → anyLong xs ≡ false → anyLong ys ≡ false → anyLong (xs ++ ys) ≡ false
+all-short [] ys h k = k
+all-short (x ∷ xs) ys h k =
+    by-test (ltb limit (length x)) (λ e. absurd (true≢false (rw e at h))) (λ e. rw e (all-short xs ys (rw e at h) k))
+
+-- if the checker accepts these symbols, strings, class and order, then for any name with its own GNU hash, any version table and any
+-- need, all within the size limit
+pub demand-3 : (class : Class) (order : Order) (p : Parts) (most : ℕ)
+    → gnuCheck class order (p .table) (p .symbols) (p .strings) ≡ Accepted most
+    → (asked : Asked) → anyLong (p .versyms ∷ p .versionStrings ∷ asked .name ∷ asked .needName ∷ []) ≡ false
+    → Demand3 class order p asked most (gnuFind class order p asked (gnuHash (asked .name)))
+unfolding gnuFind
+demand-3 class order p most accepted asked short =
+    let a = accept class order p most accepted in
+    let t = gnuTable class order p in
+    let kept = rules t most (a .table) in
+    let f = finds-lowest t kept (asked .name) (wanted class order p asked) (wanted-named class order p asked) in
+    rw (all-short (p .table ∷ p .symbols ∷ p .strings ∷ []) _ (a .short) short, a .header, f .answer)
+    (by-first class order p asked most (f .probes) (subst (λ m. f .probes ≤ m) (accepted-longest t most (a .table)) (f .few))
+    (kept .base-high) (firstOf (wanted class order p asked) (hashed t)) refl)
