@@ -1,0 +1,60 @@
+-- T3 in plain words, without a bound on steps: each chain is a list of numbers that comes to 0, and in that of bucket b number i stands once, if it is a
+-- symbol from low on with a hash of that bucket, and else not.
+--     Holds                   that, of the chain of a bucket
+--     t3-means, means-t3      T3 is that of every bucket
+-- Assumes nothing.
+use mathlib.Core.Path.{_≡_, _∙_}
+use mathlib.Core.Bool.{Bool, true, false, cond, _&&_}
+use mathlib.Core.List.{List}
+use Prim.Native.Nat.{ℕ, _-_, _≤_, _<_}
+use native.Mathlib.Omega.{arith}
+use lib.Dec.{leb, eqb}
+use borrow.Author.Tests.{leb-true, leb-false, lt-leb, le-leb, eqb-true, eqb-false, eq-eqb, ne-eqb}
+use Rattle.lookup.specs.Pick.{from}
+use Rattle.lookup.proofs.Picking.{all-from, by-test}
+use Rattle.sysv.specs.Table.{Table, numbers}
+use Rattle.sysv_check.specs.Count.{times}
+use Rattle.sysv_check.specs.Rules.{bucketOf, Chain, right, t3, t3At}
+use Rattle.sysv_check.proofs.Counting.{all-every}
+use Rattle.sysv_check.proofs.Chained.{chain-whole}
+use Rattle.sysv_check.proofs.Ruled.{placed}
+
+module _ (t : Table) (low : ℕ) where
+  pub record Holds (b : ℕ) : Type 0 where
+    pub list : List ℕ
+    pub comes-to-zero : Chain (t .chainCount) (t .chain) (t .bucket b) list
+    pub once : (i : ℕ) → low ≤ i → i < t .count → bucketOf t i ≡ b → times i list ≡ 1
+    pub no-other : (i : ℕ) → low ≤ i → i < t .count → ¬ (bucketOf t i ≡ b) → times i list ≡ 0
+    pub none-lower : (i : ℕ) → 1 ≤ i → i < low → times i list ≡ 0
+
+  pub t3-means : 1 ≤ low → low ≤ t .count → t3 t low ≡ true → (b : ℕ) → b < t .bucketCount → Holds b
+  t3-means one-low high h b hb =
+      let p = placed t low h b hb in
+      record {
+        list = numbers t b;
+        comes-to-zero = p .path;
+        once = λ i lo hi e. p .often i (omega arith) hi ∙ (rw (le-leb low i lo, eq-eqb (bucketOf t i) b e));
+        no-other = λ i lo hi ne. p .often i (omega arith) hi ∙ (rw (le-leb low i lo, ne-eqb (bucketOf t i) b ne));
+        none-lower = λ i lo hi. p .often i lo (omega arith) ∙ (rw (lt-leb low i hi));
+      }
+
+  right-is : (xs : List ℕ) (b i : ℕ) → (low ≤ i → bucketOf t i ≡ b → times i xs ≡ 1)
+      → (low ≤ i → ¬ (bucketOf t i ≡ b) → times i xs ≡ 0) → (i < low → times i xs ≡ 0) → times i xs ≡ right t low b i
+  right-is xs b i once other lower =
+      by-test (leb low i)
+      (λ l. by-test (eqb (bucketOf t i) b)
+      (λ e. rw (l, e) (once (leb-true low i l) (eqb-true (bucketOf t i) b e)))
+      (λ e. rw (l, e) (other (leb-true low i l) (eqb-false (bucketOf t i) b e))))
+      (λ l. rw l (lower (leb-false low i l)))
+
+  pub means-t3 : ((b : ℕ) → b < t .bucketCount → Holds b) → t3 t low ≡ true
+  means-t3 holds =
+      all-every (t3At t low) (from 0 (t .bucketCount))
+      (all-from (λ b. t3At t low b ≡ true) 0 (t .bucketCount) (λ b lo hi.
+      let c = holds b (omega arith) in
+      let whole = chain-whole (t .chainCount) (t .chain) (t .bucket b) (c .list) (c .comes-to-zero) in
+      rw (whole .0)
+      (all-every (λ i. eqb (times i (numbers t b)) (right t low b i)) (from 1 (t .count - 1))
+      (all-from _ 1 (t .count - 1) (λ i lo' hi'. eq-eqb (times i (numbers t b)) (right t low b i)
+      (rw (whole .1) (right-is (c .list) b i
+      (λ l e. c .once i l (omega arith) e) (λ l ne. c .no-other i l (omega arith) ne) (λ l. c .none-lower i lo' l))))))))

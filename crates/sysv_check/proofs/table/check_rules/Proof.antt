@@ -1,0 +1,71 @@
+-- `sysv_check::table::check_rules` meets its contract. Each return is told what the passes answered. Assumes nothing.
+use mathlib.Core.Path.{_≡_, sym, _∙_}
+use mathlib.Core.Bool.{true, false}
+use borrow.Author.Tests.{not-true, not-false}
+use Rattle.sysv_check.proofs.Passes.{shaped-facts, check-1, check-2, check-3, check-all}
+use borrow.Author.Needs.{needs}
+use Rattle.sysv_check.proofs.table.check_rules.Statement.{statement}
+use Rattle.sysv_check.proofs.table.check_rules.Tie as tie
+
+has-shape-requires : tie.Need-has-shape-requires
+has-shape-requires c κs = search needs
+
+returns : tie.Need-returns
+returns c =
+    let start = c .before .before .before .before .before in
+    sym (check-1 (start .args .class) (start .args .order) (start .args .table .now) (start .args .symbols .now)
+    (start .args .strings .now) (start .args .low) (start .args .header) (start .args .count) (start .pre .0) (start .pre .1)
+    (sym (c .before .has-shape .ensures) ∙ not-true _ (c .if1 .taken)))
+
+names-readable-requires : tie.Need-names-readable-requires
+names-readable-requires c κs = search needs
+
+returns-2 : tie.Need-returns-2
+returns-2 c =
+    let shaped = c .before .before in
+    let start = shaped .before .before .before .before .before in
+    sym (check-2 (start .args .class) (start .args .order) (start .args .table .now) (start .args .symbols .now)
+    (start .args .strings .now) (start .args .low) (start .args .header) (start .args .count) (start .pre .0) (start .pre .1)
+    (sym (shaped .before .has-shape .ensures) ∙ not-false _ (shaped .if1 .left))
+    (sym (c .before .names-readable .ensures) ∙ not-true _ (c .if2 .taken)))
+
+chains-hold-requires : tie.Need-chains-hold-requires
+chains-hold-requires c κs =
+    let shaped = c .before .before in
+    let start = shaped .before .before .before .before .before in
+    shaped-facts (start .args .header .«bucket_count») (start .args .header .«chain_count») (start .args .count) (start .args .low)
+    (sym (shaped .before .has-shape .ensures) ∙ not-false _ (shaped .if1 .left))
+
+returns-3 : tie.Need-returns-3
+returns-3 c =
+    let readable = c .before .before in
+    let shaped = readable .before .before in
+    let start = shaped .before .before .before .before .before in
+    sym (check-3 (start .args .class) (start .args .order) (start .args .table .now) (start .args .symbols .now)
+    (start .args .strings .now) (start .args .low) (start .args .header) (start .args .count) (start .pre .0) (start .pre .1)
+    (sym (shaped .before .has-shape .ensures) ∙ not-false _ (shaped .if1 .left))
+    (sym (readable .before .names-readable .ensures) ∙ not-false _ (readable .if2 .left))
+    (sym (c .before .chains-hold .ensures) ∙ not-true _ (c .if3 .taken)))
+
+returns-4 : tie.Need-returns-4
+returns-4 c =
+    let readable = c .before .before in
+    let shaped = readable .before .before in
+    let start = shaped .before .before .before .before .before in
+    sym (check-all (start .args .class) (start .args .order) (start .args .table .now) (start .args .symbols .now)
+    (start .args .strings .now) (start .args .low) (start .args .header) (start .args .count) (start .pre .0) (start .pre .1)
+    (sym (shaped .before .has-shape .ensures) ∙ not-false _ (shaped .if1 .left))
+    (sym (readable .before .names-readable .ensures) ∙ not-false _ (readable .if2 .left))
+    (sym (c .before .chains-hold .ensures) ∙ not-false _ (c .if3 .left)))
+
+pub check-rules-spec : {M : Type 1} → statement M
+check-rules-spec =
+    tie.close
+    (tie.spec
+    has-shape-requires
+    returns
+    names-readable-requires
+    returns-2
+    chains-hold-requires
+    returns-3
+    returns-4)

@@ -1,0 +1,4 @@
+pub mod Check
+pub mod Count
+pub mod Pass
+pub mod Rules
