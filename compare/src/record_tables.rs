@@ -10,7 +10,7 @@ use crate::tables::{GnuShape, Symbols, damaged_words, gnu_table, made_up, sysv_t
 use crate::versions::Parts;
 use std::collections::BTreeMap;
 
-/// How many records a list has of each answer: of an answer proper and of a refusal.
+/// How many records a list has of each answer, of each refusal and of each broken rule.
 const OF_AN_ANSWER: usize = 150;
 const OF_A_REFUSAL: usize = 50;
 const OF_A_BROKEN_RULE: usize = 60;

@@ -105,9 +105,17 @@ fn sysv_found(record: &[u8], class: Class, order: Order, store: &[u32], need: Ne
     )
 }
 
+// Whether a refusal is the recorded one, which is 0 where there is none.
+fn same_refusal(recorded: u8, number: u32) -> bool {
+    if recorded == 0 {
+        return false;
+    }
+    number == recorded as u32
+}
+
 // Whether a lookup gives the refusal, or the symbol or none and the probes, that are recorded.
 fn same_answer(record: &[u8], answer: Answer) -> bool {
-    let refusal = u8_at(record, ANSWER) as u32;
+    let refusal = u8_at(record, ANSWER);
     let found = u8_at(record, ANSWER + 1);
     let recorded = u32_at(Order::Little, record, ANSWER + 6) as usize;
     match answer {
@@ -132,13 +140,13 @@ fn same_answer(record: &[u8], answer: Answer) -> bool {
             }
             probes == recorded
         }
-        Answer::Refused(r) => r.0 == refusal,
+        Answer::Refused(r) => same_refusal(refusal, r.0),
     }
 }
 
 // Whether a table's length is the recorded one, or nothing, or the refusal.
 fn same_length(record: &[u8], length: TableLength) -> bool {
-    let refusal = u8_at(record, LENGTH) as u32;
+    let refusal = u8_at(record, LENGTH);
     let there = u8_at(record, LENGTH + 1);
     match length {
         TableLength::Symbols(count) => {
@@ -156,7 +164,7 @@ fn same_length(record: &[u8], length: TableLength) -> bool {
             }
             there == 0
         }
-        TableLength::Refused(r) => r.0 == refusal,
+        TableLength::Refused(r) => same_refusal(refusal, r.0),
     }
 }
 
