@@ -4,7 +4,7 @@
 
 use crate::Run;
 use crate::inputs::{KINDS, Random, big, is64};
-use crate::plain::{gnu_hash, sysv_hash};
+use crate::plain::{Found, gnu_hash, sysv_hash};
 use crate::report::hex;
 use crate::tables::{
     GnuShape, NAMES, Symbols, VERSIONS, damaged_words, gnu_table, made_up, of_library, put_symbol,
@@ -16,7 +16,7 @@ use fetulombo::{
     Versions, Wanted,
 };
 
-#[derive(Clone, Copy, PartialEq, Eq)]
+#[derive(Debug, Clone, Copy, PartialEq, Eq, PartialOrd, Ord)]
 pub enum Kind {
     Gnu,
     Sysv,
@@ -95,9 +95,9 @@ pub fn rehashed(mut asked: Asked) -> Asked {
     asked
 }
 
-/// The original's versions of these symbols, or of none where it refuses them, and the same store.
-pub fn versions_of(made: &Symbols) -> (Option<oracle::Versions<'_>>, Vec<u32>) {
-    let theirs = oracle::versions_parse(
+/// The original's versions of these symbols, if it does not refuse them.
+pub fn their_versions(made: &Symbols) -> Option<oracle::Versions<'_>> {
+    oracle::versions_parse(
         is64(made.class),
         big(made.order),
         &made.versions.versyms,
@@ -105,7 +105,12 @@ pub fn versions_of(made: &Symbols) -> (Option<oracle::Versions<'_>>, Vec<u32>) {
         Some(&made.versions.verneed),
         &made.versions.strings,
     )
-    .ok();
+    .ok()
+}
+
+/// The same with the store of ours, which is empty where they are refused.
+pub fn versions_of(made: &Symbols) -> (Option<oracle::Versions<'_>>, Vec<u32>) {
+    let theirs = their_versions(made);
     let parsed = |room| {
         let mut store = vec![0; room];
         let highest = fetulombo::versions_parse(
@@ -175,40 +180,7 @@ fn lookup(
     let ours = ours
         .map(|found| (found.symbol.map(|symbol| symbol.0), found.probes))
         .map_err(|refusal| refusal.number());
-    let need = need.map(|(name, hash)| oracle::Need { name, hash });
-    let matches = |symbol| theirs.matches(symbol, need);
-    let plain = made.plain(table);
-    let walked = match kind {
-        Kind::Gnu => plain.gnu_find(&asked.name, asked.hash, &matches),
-        Kind::Sysv => plain.sysv_find(&asked.name, asked.hash, &matches),
-    };
-    // The original's symbol with the plain walk's probes.
-    let there = oracle::Symbols {
-        symbols: &made.symbols,
-        strings: &made.strings,
-    };
-    let wanted = oracle::Wanted {
-        name: &asked.name,
-        hash: asked.hash,
-        need,
-    };
-    let (is64, big) = (is64(class), big(order));
-    let original = match (kind, walked) {
-        (Kind::Gnu, Err(30)) => Err(30),
-        (Kind::Gnu, walked) => oracle::gnu_parse(is64, big, table).map(|gnu| {
-            let probes = walked.map_or(u64::MAX, |found| found.1);
-            // A shift that is never used is put aside: the original must not see it.
-            let found = match shift(order, table) > 31 {
-                true => walked.ok().and_then(|found| found.0),
-                false => gnu.find(there, theirs, wanted),
-            };
-            (found, probes)
-        }),
-        (Kind::Sysv, walked) => oracle::sysv_parse(is64, big, table).map(|sysv| {
-            let probes = walked.map_or(u64::MAX, |found| found.1);
-            (sysv.find(there, theirs, wanted), probes)
-        }),
-    };
+    let original = original(kind, made, table, theirs, asked);
     let name = match kind {
         Kind::Gnu => "gnu find",
         Kind::Sysv => "sysv find",
@@ -235,8 +207,55 @@ fn lookup(
     );
 }
 
+/// The original's symbol with the plain walk's probes. Where the shift is above 31, the plain walk's
+/// answer: the original must not see such a shift.
+pub fn original(
+    kind: Kind,
+    made: &Symbols,
+    table: &[u8],
+    theirs: &oracle::Versions<'_>,
+    asked: &Asked,
+) -> Found {
+    let need = asked.need.as_ref();
+    let need = need.map(|(name, hash)| oracle::Need { name, hash: *hash });
+    let matches = |symbol| theirs.matches(symbol, need);
+    let plain = made.plain(table);
+    let walked = match kind {
+        Kind::Gnu => plain.gnu_find(&asked.name, asked.hash, &matches),
+        Kind::Sysv => plain.sysv_find(&asked.name, asked.hash, &matches),
+    };
+    let there = oracle::Symbols {
+        symbols: &made.symbols,
+        strings: &made.strings,
+    };
+    let wanted = oracle::Wanted {
+        name: &asked.name,
+        hash: asked.hash,
+        need,
+    };
+    let probes = walked.map_or(u64::MAX, |found| found.1);
+    let (is64, big) = (is64(made.class), big(made.order));
+    match kind {
+        Kind::Gnu if walked == Err(30) => walked,
+        Kind::Gnu => oracle::gnu_parse(is64, big, table).map(|gnu| {
+            let found = match shift(made.order, table) > 31 {
+                true => walked.ok().and_then(|found| found.0),
+                false => gnu.find(there, theirs, wanted),
+            };
+            (found, probes)
+        }),
+        Kind::Sysv => oracle::sysv_parse(is64, big, table)
+            .map(|sysv| (sysv.find(there, theirs, wanted), probes)),
+    }
+}
+
+/// The shift of a table that has a header.
 fn shift(order: Order, table: &[u8]) -> u32 {
-    fetulombo::u32_at(order, table, 12).unwrap()
+    let bytes = table[12..16].try_into().expect("4 bytes");
+    match order {
+        Order::Little => u32::from_le_bytes(bytes),
+        Order::Big => u32::from_be_bytes(bytes),
+    }
 }
 
 fn lengths(run: &mut Run, kind: Kind, made: &Symbols, table: &[u8]) {

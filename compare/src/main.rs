@@ -17,6 +17,7 @@ mod lookups;
 mod notes;
 mod plain;
 mod record;
+mod record_tables;
 mod report;
 mod segments;
 mod strings;

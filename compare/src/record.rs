@@ -1,8 +1,10 @@
 //! The lists of the original's answers that the replay programs read: records of a fixed length,
-//! numbers little. Every part of an answer comes from the oracle.
+//! numbers little. Every part of an answer comes from the oracle; those about the hash tables are
+//! made in `record_tables`.
 
 use crate::inputs::{KINDS, Random, big, is64};
 use crate::notes::{property_bytes, section};
+use crate::record_tables;
 use crate::segments;
 use crate::strings::original_equals;
 use crate::symbols::size;
@@ -35,9 +37,13 @@ pub fn write(folder: &Path, seed: u64) {
         .flat_map(|_| segment(&mut random))
         .collect();
     std::fs::write(folder.join("segment_replay/stdin"), segments).expect("segment_replay");
+    let lookups = record_tables::lookups(&mut random);
+    std::fs::write(folder.join("lookup_replay/stdin"), lookups).expect("lookup_replay");
+    let checks = record_tables::checks(&mut random);
+    std::fs::write(folder.join("check_replay/stdin"), checks).expect("check_replay");
 }
 
-fn padded(bytes: &[u8], length: usize) -> Vec<u8> {
+pub fn padded(bytes: &[u8], length: usize) -> Vec<u8> {
     let mut padded = bytes.to_vec();
     assert!(padded.len() <= length);
     padded.resize(length, 0);
