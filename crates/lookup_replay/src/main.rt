@@ -11,9 +11,9 @@ use libc::STDIN_FILENO;
 use libc::STDOUT_FILENO;
 use lookup::Answer;
 use sysv::length::ChainCount;
-use version::parse::Parsed;
-use version::parse::parse;
 use version::table::Need;
+use version_parse::parse::Parsed;
+use version_parse::parse::parse;
 
 const RECORD: usize = 640;
 

@@ -22,8 +22,11 @@ lookup-answer-requires c κs = search needs
 
 returns : tie.Need-returns
 returns c =
-    let found = rw (c .before .before .need-of .ensures, c .before .before .before .order-of .ensures,
-    c .before .before .before .before .class-of .ensures) at (c .before .find .ensures) in
+    let found = rw (
+      c .before .before .need-of .ensures,
+      c .before .before .before .order-of .ensures,
+      c .before .before .before .before .class-of .ensures,
+    ) at (c .before .find .ensures) in
     c .lookup-answer .ensures ∙ ap lookupAnswer found
 
 pub fetulombo-sysv-find-spec : {M : Type 1} → statement M
