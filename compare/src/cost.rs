@@ -1,6 +1,11 @@
-//! What version parsing costs on the inputs that are made to cost the most.
+//! What version parsing costs on the inputs that are made to cost the most, and how the checkers'
+//! time grows.
 
-use fetulombo::{LARGEST_STORE, Order};
+use crate::plain::gnu_hash;
+use crate::tables::{self, GnuShape, gnu_table, put_symbol, sysv_table};
+use fetulombo::{
+    Class, GnuTable, GnuVerdict, LARGEST_STORE, Order, Symbols, SysvTable, SysvVerdict,
+};
 use std::time::{Duration, Instant};
 
 pub fn print() {
@@ -104,4 +109,85 @@ fn row_over(input: &str, verneed: &[u8], strings: &[u8]) {
 fn row_alone(input: &str, verneed: &[u8]) {
     let ours = ours(verneed, b"\0");
     println!("| {input} | {} | {ours:?} | not run |", verneed.len());
+}
+
+/// The checkers on tables of n and of 4n symbols: good ones, ones with all symbols in one bucket, and
+/// ones that are broken at their end.
+pub fn print_checkers() {
+    println!("| table | symbols | GNU checker | SysV checker |");
+    println!("|---|---:|---:|---:|");
+    for (name, buckets, broken) in [
+        ("good", None, false),
+        ("one bucket", Some(1), false),
+        ("broken at its end", None, true),
+    ] {
+        for n in [10_000, 40_000, 150_000, 600_000] {
+            let buckets = buckets.unwrap_or(n / 4);
+            let made = many(n, buckets as u32);
+            let shape = GnuShape {
+                buckets: buckets as u32,
+                base: 1,
+                blooms: (n / 16).next_power_of_two(),
+                shift: 6,
+            };
+            let mut gnu = gnu_table(&made, shape);
+            let mut sysv = sysv_table(&made, buckets);
+            if broken {
+                // The last end bit; the chain of the last bucket that has one.
+                let last = gnu.len() - 4;
+                gnu[last] ^= 1;
+                let last = (0..buckets).rev().map(|b| 8 + b * 4);
+                let last = last.filter(|&at| sysv[at..at + 4] != [0; 4]).next();
+                let at = last.expect("a bucket in use");
+                sysv[at..at + 4].copy_from_slice(&[0; 4]);
+            }
+            let symbols = Symbols {
+                symbols: &made.symbols,
+                strings: &made.strings,
+            };
+            let gnu = GnuTable::parse(made.class, made.order, &gnu).expect("a table");
+            let sysv = SysvTable::parse(made.class, made.order, &sysv).expect("a table");
+            let accepted = gnu.check(symbols).map(|said| match said {
+                GnuVerdict::Accepted { .. } => true,
+                GnuVerdict::Broken { rule, .. } => rule != 10,
+            });
+            assert_eq!(accepted, Ok(!broken));
+            let said = sysv.check(symbols);
+            assert_eq!(said == Ok(SysvVerdict::Accepted), !broken);
+            let gnu = best(|| assert!(gnu.check(symbols).is_ok()));
+            let sysv = best(|| assert!(sysv.check(symbols).is_ok()));
+            println!("| {name} | {n} | {gnu:.2?} | {sysv:.2?} |");
+        }
+    }
+}
+
+/// The shortest of five runs.
+fn best(mut run: impl FnMut()) -> Duration {
+    let time = |_| {
+        let start = Instant::now();
+        run();
+        start.elapsed()
+    };
+    (0..5).map(time).min().expect("five runs")
+}
+
+/// So many symbols of short names, in the order that a GNU table with these buckets asks for.
+fn many(n: usize, buckets: u32) -> tables::Symbols {
+    let mut names: Vec<String> = (1..n).map(|k| format!("s{k:06}")).collect();
+    names.sort_by_key(|name| gnu_hash(name.as_bytes()) % buckets);
+    let (class, order) = (Class::Elf64, Order::Little);
+    let mut made = tables::Symbols {
+        class,
+        order,
+        symbols: Vec::new(),
+        strings: vec![0],
+        versions: Default::default(),
+    };
+    put_symbol(class, order, &mut made.symbols, 0);
+    for name in names {
+        put_symbol(class, order, &mut made.symbols, made.strings.len() as u32);
+        made.strings.extend(name.as_bytes());
+        made.strings.push(0);
+    }
+    made
 }

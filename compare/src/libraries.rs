@@ -38,7 +38,7 @@ pub const VERNEED: u32 = 0x6fff_fffe;
 pub const VERSYM: u32 = 0x6fff_ffff;
 
 impl Library {
-    fn open(path: &Path) -> Option<Self> {
+    pub fn open(path: &Path) -> Option<Self> {
         let bytes = std::fs::read(path).ok()?;
         if !bytes.starts_with(b"\x7fELF") || bytes.len() > fetulombo::LIMIT {
             return None;
@@ -85,6 +85,31 @@ impl Library {
     pub fn program_headers(&self) -> &[u8] {
         let records = oracle::file_program_headers(self.is64, &self.bytes).expect("an ELF file");
         &self.bytes[records.start..records.start + records.count * records.size]
+    }
+
+    /// Every shared library in these folders and below, each once.
+    pub fn below(folders: &[String]) -> Vec<PathBuf> {
+        let mut paths = Vec::new();
+        let mut open: Vec<PathBuf> = folders.iter().map(PathBuf::from).collect();
+        while let Some(folder) = open.pop() {
+            for entry in std::fs::read_dir(folder).into_iter().flatten().flatten() {
+                let is_folder = entry.file_type().is_ok_and(|kind| kind.is_dir());
+                if is_folder {
+                    open.push(entry.path());
+                } else if entry.file_name().to_string_lossy().contains(".so") {
+                    paths.extend(entry.path().canonicalize());
+                }
+            }
+        }
+        paths.sort();
+        paths.dedup();
+        paths
+    }
+
+    /// Where the first section of a kind starts in the file.
+    pub fn first(&self, kind: u32) -> usize {
+        let section = self.sections.iter().find(|section| section.kind == kind);
+        section.expect("a section of that kind").start
     }
 
     pub fn part(&self, section: &Section) -> &[u8] {

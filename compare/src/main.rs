@@ -3,10 +3,15 @@
 //! difference with its input in hex. Exits with 1 if an answer differs.
 //!
 //!     compare [--seed N] [--long] [--record FOLDER] [--cost]
+//!     compare --survey FOLDER...
+//!     compare --damage LIBRARY FOLDER
 //!
 //! `--long` runs a hundred times as many random inputs. `--record` writes the lists that the replay
 //! programs read, below FOLDER (the repository's crates/), and compares nothing. `--cost` times both
-//! on the inputs that cost version parsing the most, and compares nothing else.
+//! on the inputs that cost version parsing the most, and the checkers on tables of n and 4n symbols, and
+//! compares nothing else. `--survey` says what the checkers find in the libraries below the folders.
+//! `--damage` writes copies of a library below FOLDER, each with one rule broken, and says what the
+//! checkers find in them.
 
 mod checks;
 mod cost;
@@ -21,6 +26,7 @@ mod record_tables;
 mod report;
 mod segments;
 mod strings;
+mod survey;
 mod symbols;
 mod tables;
 mod versions;
@@ -50,6 +56,16 @@ fn main() -> ExitCode {
             "--long" => scale = 100,
             "--cost" => {
                 cost::print();
+                cost::print_checkers();
+                return ExitCode::SUCCESS;
+            }
+            "--survey" => {
+                survey::print(&words.collect::<Vec<String>>());
+                return ExitCode::SUCCESS;
+            }
+            "--damage" => {
+                let mut word = || words.next().expect("--damage wants a library and a folder");
+                survey::damage(&word(), &word());
                 return ExitCode::SUCCESS;
             }
             "--record" => folder = Some(words.next().expect("--record wants a folder")),

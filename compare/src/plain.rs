@@ -1,4 +1,4 @@
-//! The lookups with their probes, the lengths and the two checkers, straight from the words of the
+//! The lookups with their probes and the two checkers, straight from the words of the
 //! scope document: plain, quadratic where that is simplest, and sharing nothing with the archive.
 //! The original has no probes and no checkers, so these are held against this.
 
@@ -99,10 +99,6 @@ impl<'a> Plain<'a> {
             return Err(25);
         }
         Ok((buckets, chains))
-    }
-
-    pub fn sysv_length(&self) -> Result<u32, u32> {
-        Ok(self.sysv_header()?.1 as u32)
     }
 
     /// `matches` says whether a symbol's version is the one that is needed.
@@ -207,29 +203,6 @@ impl<'a> Plain<'a> {
             }
         }
         Ok((None, probes))
-    }
-
-    pub fn gnu_base(&self) -> Result<u32, u32> {
-        Ok(self.gnu_header()?.symbol_base as u32)
-    }
-
-    pub fn gnu_length(&self) -> Result<Option<u32>, u32> {
-        let gnu = self.gnu_header()?;
-        let Some(highest) = (0..gnu.bucket_count).map(|b| self.bucket(&gnu, b)).max() else {
-            return Ok(None);
-        };
-        if gnu.symbol_base == 0 || highest < gnu.symbol_base {
-            return Ok(None);
-        }
-        for symbol in highest.. {
-            if symbol - gnu.symbol_base >= gnu.values {
-                return Ok(None);
-            }
-            if self.value(&gnu, symbol) & 1 == 1 {
-                return Ok(u32::try_from(symbol + 1).ok());
-            }
-        }
-        Ok(None)
     }
 
     /// The GNU checker.
