@@ -1,5 +1,5 @@
--- Both bloom bits of a symbol are set exactly if the bloom filter lets its hash pass, where there are bloom words and the shift is no more
--- than 31. Assumes nothing.
+-- Both bloom bits of a symbol are set exactly if the bloom filter lets its hash pass, where there are bloom words and the
+-- shift is no more than 31. Assumes nothing.
 use Prim.Native.Nat.{ℕ, _≤_}
 use mathlib.Core.Path.{_≡_, refl, ap, _∙_}
 use mathlib.Core.Bool.{Bool, true, false, cond, not, _&&_}
@@ -41,4 +41,5 @@ module _ (class : Class) (order : Order) (table symbols strings : List ℕ) (lay
   unfolding hashOf hashIn bloomFirst bloomSecond
   bits-set hash own bloom answer =
       ap passes answer ∙ filter-passes (tableAt class order table layout 0) hash blooms small
-      ∙ ap (λ h. bloomFirst (tableAt class order table layout 0) h && bloomSecond (tableAt class order table layout 0) h) own
+      ∙ ap (λ h. bloomFirst (tableAt class order table layout 0) h && bloomSecond
+      (tableAt class order table layout 0) h) own

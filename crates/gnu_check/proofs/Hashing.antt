@@ -61,7 +61,8 @@ module _ (h : ℕ) (s : List ℕ) (i : ℕ) where
   pub hashFrom-end : i < length s → getD s i 0 ≡ 0 → hashFrom h (drop i s) ≡ h
   hashFrom-end more ended = rw (drop-cons s i 0, ended) (hashFrom-zero h (drop (suc i) s))
 
-  pub hashFrom-step : i < length s → ¬ (getD s i 0 ≡ 0) → hashFrom h (drop i s) ≡ hashFrom (gnuStep h (getD s i 0)) (drop (i + 1) s)
+  pub hashFrom-step : i < length s → ¬ (getD s i 0 ≡ 0)
+      → hashFrom h (drop i s) ≡ hashFrom (gnuStep h (getD s i 0)) (drop (i + 1) s)
   hashFrom-step more other = rw (drop-cons s i 0, add-one i) (hashFrom-next h (getD s i 0) (drop (suc i) s) other)
 
   pub hashFrom-none : length s ≤ i → hashFrom h (drop i s) ≡ 5381
@@ -78,19 +79,23 @@ module _ (class : Class) (order : Order) (symbols strings : List ℕ) (i : ℕ) 
   unfolding nameOf
   name-at entry there =
       by-test (ltb limit (length strings))
-      (λ long. ap (bytesOf strings) (symbolName-long class order symbols strings (symbolIndex i) (ltb-true limit (length strings) long))
+      (λ long. ap (bytesOf strings) (symbolName-long class order symbols strings (symbolIndex i)
+      (ltb-true limit (length strings) long))
       ∙ sym (rw long))
       (λ short. ap (bytesOf strings)
-      (symbolName-fits class order symbols strings (symbolIndex i) (ltb-false limit (length strings) short) ∙ ap (nameIn strings) there))
+      (symbolName-fits class order symbols strings (symbolIndex i) (ltb-false limit (length strings) short)
+      ∙ ap (nameIn strings) there))
 
   pub name-none : (r : Refusal) → symbolAt class order symbols (symbolIndex i) ≡ Symbol·Refused r
       → nameOf class order symbols strings i ≡ none
   unfolding nameOf
   name-none r none-there =
       by-test (ltb limit (length strings))
-      (λ long. ap (bytesOf strings) (symbolName-long class order symbols strings (symbolIndex i) (ltb-true limit (length strings) long)))
+      (λ long. ap (bytesOf strings) (symbolName-long class order symbols strings (symbolIndex i)
+      (ltb-true limit (length strings) long)))
       (λ short. ap (bytesOf strings)
-      (symbolName-fits class order symbols strings (symbolIndex i) (ltb-false limit (length strings) short) ∙ ap (nameIn strings) none-there))
+      (symbolName-fits class order symbols strings (symbolIndex i) (ltb-false limit (length strings) short)
+      ∙ ap (nameIn strings) none-there))
 
   pub hashIn-at : (entry : Symbol) → symbolAt class order symbols (symbolIndex i) ≡ Symbol·At entry
       → hashIn class order symbols strings i ≡ hashAt strings (entry .name)
@@ -113,7 +118,8 @@ some-read strings at short = rw (le-ltb limit (length strings) short) (by (reada
     by false = refl
 
 pub name-readable : (class : Class) (order : Order) (symbols strings : List ℕ) (i : ℕ) → length strings ≤ limit
-    → readableIn class order symbols strings i ≡ startsBelow (afterZero strings) (symbolAt class order symbols (symbolIndex i))
+    → readableIn class order symbols strings i
+    ≡ startsBelow (afterZero strings) (symbolAt class order symbols (symbolIndex i))
 name-readable class order symbols strings i short = by (symbolAt class order symbols (symbolIndex i)) refl
   where
     by : (s : SymbolAt) → symbolAt class order symbols (symbolIndex i) ≡ s

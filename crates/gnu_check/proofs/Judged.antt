@@ -158,7 +158,8 @@ module _ (t : Table) where
 
 eqb-swap : (a b : ℕ) → eqb a b ≡ eqb b a
 eqb-swap a b =
-    by-test (eqb a b) (λ e. e ∙ sym (eq-eqb b a (sym (eqb-true a b e)))) (λ e. e ∙ sym (ne-eqb b a (λ z. eqb-false a b e (sym z))))
+    by-test (eqb a b) (λ e. e ∙ sym (eq-eqb b a (sym (eqb-true a b e))))
+    (λ e. e ∙ sym (ne-eqb b a (λ z. eqb-false a b e (sym z))))
 
 map-same : (f g : ℕ → ℕ) (xs : List ℕ) → All (λ x. f x ≡ g x) xs → map f xs ≡ map g xs
 map-same f g [] h = refl
@@ -174,12 +175,14 @@ module _ (t : Table) (some-bucket : 1 ≤ t .bucketCount) where
     unfolding fromBuckets verdict
     wrong-bucket differ =
         let nine : lowest (bucketRight t) (from 0 (t .bucketCount)) ≡ some r =
-        rw (sub-zero (t .bucketCount)) at (first-some (λ b. not (bucketRight t b)) 0 (t .bucketCount) r as-search (omega arith) differ) in
+        rw (sub-zero (t .bucketCount)) at (first-some (λ b. not (bucketRight t b)) 0 (t .bucketCount) r as-search
+        (omega arith) differ) in
         rw nine
 
     pub right-buckets : r ≡ t .bucketCount → lowest (bucketRight t) (from 0 (t .bucketCount)) ≡ none
     right-buckets same =
-        rw (sub-zero (t .bucketCount)) at (first-none (λ b. not (bucketRight t b)) 0 (t .bucketCount) r as-search (omega arith) same)
+        rw (sub-zero (t .bucketCount)) at (first-none (λ b. not (bucketRight t b)) 0 (t .bucketCount) r as-search
+        (omega arith) same)
 
   module _ (within : t .base ≤ t .count) (nine : lowest (bucketRight t) (from 0 (t .bucketCount)) ≡ none) where
     kept : (b : ℕ) → b < t .bucketCount → bucketRight t b ≡ true
@@ -213,13 +216,16 @@ module _ (t : Table) (some-bucket : 1 ≤ t .bucketCount) where
           sym (ap (λ i. odd (t .value i)) place)
           ∙ (rw (next, lt-ltb (t .base + suc k) (t .count) low) at (ended here (omega arith) (omega arith)))
           ∙ ap not (eqb-swap (bucketOf t (t .base + suc k)) (bucketOf t here)) in
-          rw (bit, starts-same k (omega arith)) (sym (flip (eqb (bucketOf t here) (bucketOf t (t .base + suc k))) (runStart t k) (t .base + suc k)))
+          rw (bit, starts-same k (omega arith))
+          (sym (flip (eqb (bucketOf t here) (bucketOf t (t .base + suc k))) (runStart t k) (t .base + suc k)))
 
       chain-is : longestChain (t .base) (t .value) (t .count) ≡ longestRun t
       chain-is =
           ap largest
-          (map-same (λ i. suc i - chainStart (t .base) (t .value) (i - t .base)) (λ i. suc i - runStart t (i - t .base)) (hashed t)
-          (all-from _ (t .base) (t .count - t .base) (λ i lo hi. ap (λ start. suc i - start) (starts-same (i - t .base) (omega arith)))))
+          (map-same (λ i. suc i - chainStart (t .base) (t .value) (i - t .base)) (λ i. suc i - runStart t (i - t .base))
+          (hashed t)
+          (all-from _ (t .base) (t .count - t .base)
+          (λ i lo hi. ap (λ start. suc i - start) (starts-same (i - t .base) (omega arith)))))
 
       pub from-buckets-accepted : fromBuckets t ≡ Accepted (longestChain (t .base) (t .value) (t .count))
       unfolding fromBuckets verdict
@@ -234,8 +240,10 @@ checkFrom false (SymbolCount.Symbols n) (HeaderAt.Refused r) look = Refused r
 checkFrom false (SymbolCount.Symbols n) (HeaderAt.At layout) look = look layout n
 
 -- the parts may be tested in any order, for each is refused alike
-any-order : (tableLong symbolsLong stringsLong : Bool) (o : Option Refusal) (n : ℕ) (layout : Layout) (look : Layout → ℕ → Checked)
-    → cond (cond tableLong true (cond symbolsLong true (cond stringsLong true false))) (Refused tooLong) (unlessRefused o (look layout n))
+any-order : (tableLong symbolsLong stringsLong : Bool) (o : Option Refusal) (n : ℕ) (layout : Layout)
+    (look : Layout → ℕ → Checked)
+    → cond (cond tableLong true (cond symbolsLong true (cond stringsLong true false))) (Refused tooLong)
+    (unlessRefused o (look layout n))
     ≡ checkFrom stringsLong (cond symbolsLong (SymbolCount.Refused tooLong) (SymbolCount.Symbols n))
     (cond tableLong (HeaderAt.Refused tooLong) (headerAnswer o layout)) look
 any-order true true true o n layout look = refl

@@ -1,4 +1,5 @@
--- Where G9 holds, a bucket's symbols are one run, so its last symbol is the last of the run, and the longest chain is the longest run.
+-- Where G9 holds, a bucket's symbols are one run, so its last symbol is the last of the run, and the longest chain is the
+-- longest run.
 --     last-of-run    G10 may look at the next symbol alone
 --     longest-run    the longest run is the longest chain
 -- Assumes nothing.
@@ -20,31 +21,39 @@ use Rattle.gnu_rules.proofs.Members.{holds-run, no-member, inside, outside, las
 use Rattle.gnu_check.proofs.Starts.{kept-right}
 
 -- in a run of a bucket's symbols, the bucket's last symbol is the last of the run
-in-run : (t : Table) (b v k : ℕ) → members t b ≡ from v (suc k) → (i : ℕ) → v ≤ i → i < v + suc k → isLast t i ≡ lastOfRun t i
+in-run : (t : Table) (b v k : ℕ) → members t b ≡ from v (suc k) → (i : ℕ) → v ≤ i → i < v + suc k
+    → isLast t i ≡ lastOfRun t i
 in-run t b v k run i lo hi =
     let here = eqb-true (bucketOf t i) b (inside t b v k run i lo hi .1) in
     by-test (ltb i (v + k))
     (λ e. let less = ltb-true i (v + k) e in
     let next = inside t b v k run (suc i) (omega arith) (omega arith) in
     not-last t b v k run i lo less
-    ∙ sym (rw (lt-ltb (suc i) (t .count) (next .0 .1), eq-eqb (bucketOf t (suc i)) (bucketOf t i) (eqb-true (bucketOf t (suc i)) b (next .1) ∙ sym here))))
+    ∙ sym (rw (
+      lt-ltb (suc i) (t .count) (next .0 .1),
+      eq-eqb (bucketOf t (suc i)) (bucketOf t i) (eqb-true (bucketOf t (suc i)) b (next .1) ∙ sym here),
+    )))
     (λ e. let more = ltb-false i (v + k) e in
     let z : i ≡ v + k = omega arith in
     let in-range = inside t b v k run i lo hi .0 in
     (ap (isLast t) z ∙ last t b v k run)
     ∙ by-test (ltb (suc i) (t .count) && inBucket t (bucketOf t i) (suc i))
     (λ both.
-    let o = outside t b v k run (suc i) (omega arith) (ltb-true _ _ (and-left (ltb (suc i) (t .count)) (inBucket t (bucketOf t i) (suc i)) both))
-    (eq-eqb _ _ (eqb-true (bucketOf t (suc i)) (bucketOf t i) (and-right (ltb (suc i) (t .count)) (inBucket t (bucketOf t i) (suc i)) both) ∙ here)) in
+    let o = outside t b v k run (suc i) (omega arith)
+    (ltb-true _ _ (and-left (ltb (suc i) (t .count)) (inBucket t (bucketOf t i) (suc i)) both))
+    (eq-eqb _ _ (eqb-true (bucketOf t (suc i)) (bucketOf t i)
+    (and-right (ltb (suc i) (t .count)) (inBucket t (bucketOf t i) (suc i)) both) ∙ here)) in
     absurd (omega arith))
     (λ none-next. rw none-next))
 
 module _ (t : Table) (some-bucket : 1 ≤ t .bucketCount) (kept : (b : ℕ) → b < t .bucketCount → bucketRight t b ≡ true) where
   -- the run of a bucket that a hashed symbol is in
-  run-of : (b i : ℕ) → t .base ≤ i → i < t .count → bucketOf t i ≡ b → bucketRight t b ≡ true → (k : ℕ) × (members t b ≡ from (t .bucket b) (suc k))
+  run-of : (b i : ℕ) → t .base ≤ i → i < t .count → bucketOf t i ≡ b → bucketRight t b ≡ true
+      → (k : ℕ) × (members t b ≡ from (t .bucket b) (suc k))
   run-of b i lo hi mine h = go (members t b) refl h
     where
-      go : (ms : List ℕ) → members t b ≡ ms → holds (t .bucket b) ms ≡ true → (k : ℕ) × (members t b ≡ from (t .bucket b) (suc k))
+      go : (ms : List ℕ) → members t b ≡ ms → holds (t .bucket b) ms ≡ true
+          → (k : ℕ) × (members t b ≡ from (t .bucket b) (suc k))
       go [] e h = absurd (no-member t b e i lo hi (eq-eqb _ _ mine))
       go (m ∷ ms) e h = (length ms, e ∙ holds-run (t .bucket b) m ms h)
 
@@ -54,7 +63,8 @@ module _ (t : Table) (some-bucket : 1 ≤ t .bucketCount) (kept : (b : ℕ) → 
   pub last-of-run : (i : ℕ) → t .base ≤ i → i < t .count → isLast t i ≡ lastOfRun t i
   last-of-run i lo hi =
       let r = run-of (bucketOf t i) i lo hi refl (kept (bucketOf t i) (bucket-in i)) in
-      let o = outside t (bucketOf t i) (t .bucket (bucketOf t i)) (r .0) (r .1) i lo hi (eq-eqb (bucketOf t i) (bucketOf t i) refl) in
+      let o = outside t (bucketOf t i) (t .bucket (bucketOf t i)) (r .0) (r .1) i lo hi
+      (eq-eqb (bucketOf t i) (bucketOf t i) refl) in
       in-run t (bucketOf t i) (t .bucket (bucketOf t i)) (r .0) (r .1) i (o .0) (o .1)
 
   -- a run of a bucket's symbols starts at the bucket's value
@@ -77,7 +87,8 @@ module _ (t : Table) (some-bucket : 1 ≤ t .bucketCount) (kept : (b : ℕ) → 
       let most = largest-le (λ x. length (members t x)) 0 (t .bucketCount) b (omega arith) (omega (arith, bucket-in i)) in
       omega arith)))
       (largest-upper (λ b. length (members t b)) (longestRun t) (from 0 (t .bucketCount))
-      (all-from (λ b. length (members t b) ≤ longestRun t) 0 (t .bucketCount) (λ b lo hi. bucket-most b (kept b (omega arith)))))
+      (all-from (λ b. length (members t b) ≤ longestRun t) 0 (t .bucketCount)
+      (λ b lo hi. bucket-most b (kept b (omega arith)))))
     where
       bucket-most : (b : ℕ) → bucketRight t b ≡ true → length (members t b) ≤ longestRun t
       bucket-most b h = go (members t b) refl h
@@ -92,5 +103,6 @@ module _ (t : Table) (some-bucket : 1 ≤ t .bucketCount) (kept : (b : ℕ) → 
               let size : length (members t b) ≡ suc k = ap length run ∙ length-from v (suc k) in
               let start : t .bucket b ≡ runStart t (v + k - t .base) =
               sym (ap (t .bucket) (eqb-true (bucketOf t (v + k)) b (end .1))) ∙ run-from (v + k) (end .0 .0) (end .0 .1) in
-              let most = largest-le (λ i. suc i - runStart t (i - t .base)) (t .base) (t .count - t .base) (v + k) (end .0 .0) (omega arith) in
+              let most = largest-le (λ i. suc i - runStart t (i - t .base)) (t .base) (t .count - t .base) (v + k)
+              (end .0 .0) (omega arith) in
               omega arith

@@ -42,7 +42,8 @@ lesser-least P Q none (some b) h k = (inr (k .0), λ c less. ⊎-elim (h c) (k .
 lesser-least P Q (some a) none h k = (inl (h .0), λ c less. ⊎-elim (h .1 c less) (k c))
 lesser-least P Q (some a) (some b) h k =
     by-test (leb a b)
-    (λ e. let le = leb-true a b e in rw (min-eq-left le) (inl (h .0), λ c less. ⊎-elim (h .1 c less) (k .1 c (omega arith))))
+    (λ e. let le = leb-true a b e in rw (min-eq-left le)
+    (inl (h .0), λ c less. ⊎-elim (h .1 c less) (k .1 c (omega arith))))
     (λ e. let gt = leb-false a b e in let le : b ≤ a = omega arith in
     rw (min-eq-right le) (inr (k .0), λ c less. ⊎-elim (h .1 c (omega arith)) (k .1 c less)))
 
@@ -50,7 +51,9 @@ pub firstOf-least : (p : ℕ → Bool) (n : ℕ) → Least (λ c. (c < n) × (p 
 firstOf-least p n = go (firstOf p (from 0 n)) refl
   where
     go : (o : Option ℕ) → firstOf p (from 0 n) ≡ o → Least (λ c. (c < n) × (p c ≡ true)) o
-    go none e = λ c h. true≢false (sym (h .1) ∙ from-all (λ j. p j ≡ false) 0 n (none-firstOf p (from 0 n) e) c (omega arith) (omega (arith, h .0)))
+    go none e =
+        λ c h. true≢false (sym (h .1) ∙ from-all (λ j. p j ≡ false) 0 n (none-firstOf p (from 0 n) e) c (omega arith)
+        (omega (arith, h .0)))
     go (some b) e =
         let l = firstOf-lowest p 0 n b e in
         ((omega (arith, l .high), l .passes), λ c less h. true≢false (sym (h .1) ∙ l .none-lower c (omega arith) less))

@@ -1,10 +1,10 @@
--- `Hashing`: the hash of a string from a place on, and of a symbol's name. `Searching`: a loop that looks for the first that passes.
--- `Filtered`: the bloom filter and the bits of a symbol.
--- `Least`: the least number of which something holds. `Starts`, `Wrong`, `Lasts`: G9 and G10 by runs.
-mod Judged
-mod Lasts
+-- `Hashing`: the hash of a string from a place on, and of a symbol's name. `Searching`: a loop that looks for the first that
+-- passes. `Filtered`: the bloom filter and the bits of a symbol. `Starts`, `Wrong`, `Lasts`: G9 and G10 by runs; `Least`, the
+-- least number of which something holds. `Turns`, `Straying`: the passes over the runs and the buckets. `Judged`: the answer.
 mod Filtered
 mod Hashing
+mod Judged
+mod Lasts
 mod Least
 mod Searching
 mod Starts

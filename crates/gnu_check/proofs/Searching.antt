@@ -1,4 +1,5 @@
--- A loop that looks for the first number from a on and below e that passes a test: its invariant, and the invariant's four laws.
+-- A loop that looks for the first number from a on and below e that passes a test: its invariant, and the invariant's four
+-- laws.
 --     Searching        at i: the first from here on is the first of all
 --     searching-start, searching-next, searching-here, searching-end
 --     first-le                  the answer is no more than e

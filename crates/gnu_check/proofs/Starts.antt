@@ -1,4 +1,5 @@
--- A bucket keeps G9 exactly if it holds 0 or the start of a run of its own, and the bucket of each of its symbols holds the start of its run.
+-- A bucket keeps G9 exactly if it holds 0 or the start of a run of its own, and the bucket of each of its symbols holds the
+-- start of its run.
 --     Start, start-of             where the run of a symbol starts, and that `runStart` says so; a run has one start
 --     begins-start, start-begins  what `begins` decides
 --     Right                       what the passes ask of a bucket
@@ -58,7 +59,8 @@ module _ (t : Table) where
         low = omega arith;
         high = le-refl _;
         same = λ j lo hi. let z : j ≡ t .base + suc k = omega arith in ap (bucketOf t) z;
-        first-one = λ more h. let z : t .base + suc k - 1 ≡ t .base + k = omega arith in eqb-false _ _ e (sym (ap (bucketOf t) z) ∙ h);
+        first-one = λ more h. let z : t .base + suc k - 1
+            ≡ t .base + k = omega arith in eqb-false _ _ e (sym (ap (bucketOf t) z) ∙ h);
       }))
 
   pub start-of : (i : ℕ) → t .base ≤ i → Start (bucketOf t i) (runStart t (i - t .base)) i
@@ -71,9 +73,12 @@ module _ (t : Table) where
 
   pub begins-start : (b v : ℕ) → begins t b v ≡ true → Start b v v × (v < t .count)
   begins-start b v h =
-      let range = and-left (leb (t .base) v && ltb v (t .count)) (inBucket t b v && (eqb v (t .base) || not (inBucket t b (v - 1)))) h in
-      let rest = and-right (leb (t .base) v && ltb v (t .count)) (inBucket t b v && (eqb v (t .base) || not (inBucket t b (v - 1)))) h in
-      let mine = eqb-true (bucketOf t v) b (and-left (inBucket t b v) (eqb v (t .base) || not (inBucket t b (v - 1))) rest) in
+      let range = and-left (leb (t .base) v && ltb v (t .count))
+      (inBucket t b v && (eqb v (t .base) || not (inBucket t b (v - 1)))) h in
+      let rest = and-right (leb (t .base) v && ltb v (t .count))
+      (inBucket t b v && (eqb v (t .base) || not (inBucket t b (v - 1)))) h in
+      let mine = eqb-true (bucketOf t v) b
+      (and-left (inBucket t b v) (eqb v (t .base) || not (inBucket t b (v - 1))) rest) in
       let before = and-right (inBucket t b v) (eqb v (t .base) || not (inBucket t b (v - 1))) rest in (
         record {
           low = leb-true _ _ (and-left (leb (t .base) v) (ltb v (t .count)) range);
@@ -102,8 +107,10 @@ module _ (t : Table) where
       select-none (inBucket t b) (from (t .base) (v - t .base))
       (all-from (λ i. inBucket t b i ≡ false) (t .base) (v - t .base)
       (λ i lo' hi'. by-test (inBucket t b i)
-      (λ h. let p = r .placed i lo' (omega arith) (eqb-true _ _ h) in let s = start-of i lo' .high in absurd (omega arith)) (λ h. h))) in
-      let above : select (inBucket t b) (from v (t .count - v)) ≡ from v (length (select (inBucket t b) (from v (t .count - v)))) =
+      (λ h. let p = r .placed i lo' (omega arith) (eqb-true _ _ h) in let s = start-of i lo' .high in absurd (omega arith))
+      (λ h. h))) in
+      let above : select (inBucket t b) (from v (t .count - v))
+      ≡ from v (length (select (inBucket t b) (from v (t .count - v)))) =
       select-front (inBucket t b) v (t .count - v)
       (λ i j lo' mid hi' h.
       let p = r .placed i (omega arith) (omega arith) (eqb-true _ _ h) in
@@ -153,10 +160,12 @@ module _ (t : Table) where
             high = lo;
             same = λ j lo' hi'. eqb-true _ _ (inside t b v (length ms) run j lo' (omega arith) .1);
             first-one = λ more h'.
-                let o = outside t b v (length ms) run (v - 1) (omega arith) (omega (arith, inside t b v (length ms) run v (le-refl v) (omega arith) .0)) (eq-eqb _ _ h') in
+                let o = outside t b v (length ms) run (v - 1) (omega arith)
+                (omega (arith, inside t b v (length ms) run v (le-refl v) (omega arith) .0)) (eq-eqb _ _ h') in
                 omega arith;
           } in
-          let begun = start-begins b v (first-of v (le-refl v) (omega arith)) (inside t b v (length ms) run v (le-refl v) (omega arith) .0 .1) in
+          let begun = start-begins b v (first-of v (le-refl v) (omega arith))
+          (inside t b v (length ms) run v (le-refl v) (omega arith) .0 .1) in
           record {
             own = rw (begun, and-false);
             placed = λ i lo hi mine.

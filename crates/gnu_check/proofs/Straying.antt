@@ -35,21 +35,37 @@ module _ (t : Table) (b v : ℕ) (held : t .bucket b ≡ v) where
       module _ (high : v < t .count) where
         pub stray-other : ¬ (bucketOf t v ≡ b) → stray t b ≡ true
         unfolding stray
-        stray-other other = rw (held, ne-eqb v 0 some, le-leb (t .base) v low, lt-ltb v (t .count) high, ne-eqb (bucketOf t v) b other)
+        stray-other other =
+            rw (held, ne-eqb v 0 some, le-leb (t .base) v low, lt-ltb v (t .count) high, ne-eqb (bucketOf t v) b other)
 
         module _ (mine : bucketOf t v ≡ b) where
           pub stray-first : v ≡ t .base → stray t b ≡ false
           unfolding stray
           stray-first first =
-              rw (held, ne-eqb v 0 some, le-leb (t .base) v low, lt-ltb v (t .count) high, eq-eqb (bucketOf t v) b mine, eq-eqb v (t .base) first)
+              rw (
+                held,
+                ne-eqb v 0 some,
+                le-leb (t .base) v low,
+                lt-ltb v (t .count) high,
+                eq-eqb (bucketOf t v) b mine,
+                eq-eqb v (t .base) first,
+              )
 
           pub stray-before : ¬ (v ≡ t .base) → stray t b ≡ eqb (bucketOf t (v - 1)) b
           unfolding stray
           stray-before later =
-              rw (held, ne-eqb v 0 some, le-leb (t .base) v low, lt-ltb v (t .count) high, eq-eqb (bucketOf t v) b mine, ne-eqb v (t .base) later)
+              rw (
+                held,
+                ne-eqb v 0 some,
+                le-leb (t .base) v low,
+                lt-ltb v (t .count) high,
+                eq-eqb (bucketOf t v) b mine,
+                ne-eqb v (t .base) later,
+              )
               (not-twice (eqb (bucketOf t (v - 1)) b))
 
-pub may-not : (t : Table) (b v : ℕ) → valueIsHash t v ≡ true → mayBe (valueOf t v) (t .bucketCount) b ≡ false → ¬ (bucketOf t v ≡ b)
+pub may-not : (t : Table) (b v : ℕ) → valueIsHash t v ≡ true → mayBe (valueOf t v) (t .bucketCount) b ≡ false
+    → ¬ (bucketOf t v ≡ b)
 may-not t b v right ruled-out mine =
     let half = eqb-true (valueOf t v / 2) (hashOf t v / 2) right in
     by-test (eqb (hashOf t v % 2) 0)

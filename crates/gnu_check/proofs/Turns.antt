@@ -1,5 +1,6 @@
 -- The passes over the runs, turn by turn: their invariants, and the laws of these.
---     Passing     the pass for misplaced symbols, at symbol i: what it knows of the symbol before, and that the rest gives the answer
+--     Passing     the pass for misplaced symbols, at symbol i: what it knows of the symbol before, and that the rest gives
+--                 the answer
 --     passing-start, passing-next, passing-end
 --     least-bound, lesser-both    the lower of two answers, each a bucket or the number of buckets
 --     Chaining    the pass for the longest chain, at symbol i: where its chain starts, and that the rest gives the answer
@@ -43,7 +44,8 @@ module _ (t : Table) where
   -- nothing is known at symbol_base; past it, the bucket of the symbol before, and where its run starts
   abbrev Behind : (start last i : ℕ) → Type 0
   Behind start last i =
-      ((i ≡ t .base) × (last ≡ t .bucketCount)) ⊎ ((t .base < i) × (last ≡ bucketOf t (i - 1)) × (start ≡ runStart t (i - 1 - t .base)))
+      ((i ≡ t .base) × (last ≡ t .bucketCount))
+      ⊎ ((t .base < i) × (last ≡ bucketOf t (i - 1)) × (start ≡ runStart t (i - 1 - t .base)))
 
   -- the lowest bucket of a misplaced symbol from i on, or the number of buckets
   abbrev leastFrom : ℕ → ℕ
@@ -77,7 +79,12 @@ module _ (t : Table) where
         let one : t .count - i ≡ suc (t .count - (i + 1)) = omega arith in
         let low = mod-lt (hashOf t i) some-bucket in
         by-test (misplaced t i)
-        (λ e. rw (one, e, add-one i, lesser-getD (bucketOf t i) (t .bucketCount) (leastMisplaced t (suc i) (t .count - suc i)) (omega arith)) (omega arith))
+        (λ e. rw (
+          one,
+          e,
+          add-one i,
+          lesser-getD (bucketOf t i) (t .bucketCount) (leastMisplaced t (suc i) (t .count - suc i)) (omega arith),
+        ) (omega arith))
         (λ e. rw (one, e, add-one i))
 
     -- no bucket is past the number of buckets
@@ -102,9 +109,11 @@ module _ (t : Table) where
       passing-next more b start′ best′ mine begun chosen =
           let begins : start′ ≡ runStart t (i - t .base) =
           begun ∙ ap (λ b. cond (eqb last b) start i) mine ∙ start-is start last i (so-far .behind) in
-          let held : eqb (t .bucket b) start′ ≡ eqb (t .bucket (bucketOf t i)) (runStart t (i - t .base)) = rw (mine, begins) in
+          let held : eqb (t .bucket b) start′
+          ≡ eqb (t .bucket (bucketOf t i)) (runStart t (i - t .base)) = rw (mine, begins) in
           let best-is : best′ ≡ cond (misplaced t i) (min best (bucketOf t i)) best =
-          chosen ∙ rw (held, mine) (flip (eqb (t .bucket (bucketOf t i)) (runStart t (i - t .base))) best (min best (bucketOf t i))) in
+          chosen ∙ rw (held, mine) (flip (eqb (t .bucket (bucketOf t i)) (runStart t (i - t .base))) best
+          (min best (bucketOf t i))) in
           let low = so-far .low in
           let back : i + 1 - 1 ≡ i = omega arith in
           record {
@@ -151,7 +160,8 @@ module _ (base : ℕ) (value : ℕ → ℕ) (count : ℕ) where
 
   pub chaining-start : base ≤ count → Chaining 0 base base
   unfolding chainStart
-  chaining-start within = record { low = le-refl _; high = within; short = omega arith; begun = rw sub-self; most = omega arith }
+  chaining-start within =
+      record { low = le-refl _; high = within; short = omega arith; begun = rw sub-self; most = omega arith }
 
   module _ (longest start i : ℕ) (so-far : Chaining longest start i) where
     pub chaining-le : start ≤ i
@@ -172,7 +182,8 @@ module _ (base : ℕ) (value : ℕ → ℕ) (count : ℕ) where
           high = omega arith;
           short = rw chosen (max-le (so-far .short) chaining-le);
           begun = next ∙ rw (after, place, so-far .begun);
-          most = rw chosen (assoc longest (i + 1 - start) (longestFrom (i + 1)) ∙ ap (max longest) (sym here) ∙ so-far .most);
+          most = rw chosen (assoc longest (i + 1 - start) (longestFrom (i + 1)) ∙ ap (max longest) (sym here)
+              ∙ so-far .most);
         }
       where
         assoc : (a b c : ℕ) → max (max a b) c ≡ max a (max b c)

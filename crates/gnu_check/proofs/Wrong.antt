@@ -1,4 +1,5 @@
--- Both passes together find the lowest bucket that breaks G9: a bucket breaks it exactly if it is stray or has a misplaced symbol.
+-- Both passes together find the lowest bucket that breaks G9: a bucket breaks it exactly if it is stray or has a misplaced
+-- symbol.
 --     Amiss          a misplaced symbol of a bucket
 --     least-wrong    `leastWrong` is the lowest bucket that breaks G9
 -- Assumes nothing.
@@ -37,7 +38,8 @@ module _ (t : Table) where
       (λ c h. ⊎-elim (λ z. inl (subst (λ x. (misplaced t x ≡ true) × (bucketOf t x ≡ c)) (sym z) (h .3, h .4)))
       (λ more. inr (h .0, more, omega arith, h .3, h .4)) (eq-or-lt-of-le (h .1)))
       (leastMisplaced t i (suc k))
-      (lesser-least (λ c. (misplaced t i ≡ true) × (bucketOf t i ≡ c)) (Amiss (suc i) (suc i + k)) (cond (misplaced t i) (some (bucketOf t i)) none) (leastMisplaced t (suc i) k)
+      (lesser-least (λ c. (misplaced t i ≡ true) × (bucketOf t i ≡ c)) (Amiss (suc i) (suc i + k))
+      (cond (misplaced t i) (some (bucketOf t i)) none) (leastMisplaced t (suc i) k)
       (one (misplaced t i) (bucketOf t i)) (least-misplaced (suc i) k))
 
   -- a bucket breaks G9 exactly if it is stray or has a misplaced symbol
@@ -46,7 +48,10 @@ module _ (t : Table) where
       by-test (bucketRight t c)
       (λ e. let r = kept-right t c e in
       absurd (⊎-elim (λ s. true≢false (sym s ∙ r .own))
-      (λ m. false≢true (rw (ap (t .bucket) (m .4), eq-eqb _ _ (r .placed (m .0) (m .1) (omega arith) (m .4))) at (m .3))) h))
+      (λ m. false≢true (rw (
+        ap (t .bucket) (m .4),
+        eq-eqb _ _ (r .placed (m .0) (m .1) (omega arith) (m .4)),
+      ) at (m .3))) h))
       (λ e. e)
 
   why : (c : ℕ) → bucketRight t c ≡ false → (stray t c ≡ true) ⊎ Amiss (t .base) (t .base + (t .count - t .base)) c
@@ -55,9 +60,11 @@ module _ (t : Table) where
       amiss : ℕ → Bool
       amiss j = inBucket t c j && misplaced t j
 
-      go : stray t c ≡ false → (o : Option ℕ) → firstOf amiss (hashed t) ≡ o → (stray t c ≡ true) ⊎ Amiss (t .base) (t .base + (t .count - t .base)) c
+      go : stray t c ≡ false → (o : Option ℕ) → firstOf amiss (hashed t) ≡ o
+          → (stray t c ≡ true) ⊎ Amiss (t .base) (t .base + (t .count - t .base)) c
       go s none e =
-          let none-amiss = from-all (λ j. amiss j ≡ false) (t .base) (t .count - t .base) (none-firstOf amiss (hashed t) e) in
+          let none-amiss = from-all (λ j. amiss j ≡ false) (t .base) (t .count - t .base)
+          (none-firstOf amiss (hashed t) e) in
           let right : Right t c =
           record {
             own = s;
@@ -68,12 +75,19 @@ module _ (t : Table) where
           absurd (true≢false (sym (right-kept t c right) ∙ h))
       go s (some j) e =
           let l = firstOf-lowest amiss (t .base) (t .count - t .base) j e in
-          inr (j, l .low, l .high, and-right (inBucket t c j) (misplaced t j) (l .passes), eqb-true _ _ (and-left (inBucket t c j) (misplaced t j) (l .passes)))
+          inr (
+            j,
+            l .low,
+            l .high,
+            and-right (inBucket t c j) (misplaced t j) (l .passes),
+            eqb-true _ _ (and-left (inBucket t c j) (misplaced t j) (l .passes)),
+          )
 
   pub least-wrong : 1 ≤ t .bucketCount → leastWrong t ≡ lowest (bucketRight t) (from 0 (t .bucketCount))
   least-wrong some-bucket =
       least-unique Breaks (leastWrong t) (lowest (bucketRight t) (from 0 (t .bucketCount)))
-      (least-map (λ c. ((c < t .bucketCount) × (stray t c ≡ true)) ⊎ Amiss (t .base) (t .base + (t .count - t .base)) c) Breaks
+      (least-map (λ c. ((c < t .bucketCount) × (stray t c ≡ true)) ⊎ Amiss (t .base)
+      (t .base + (t .count - t .base)) c) Breaks
       (λ c. ⊎-elim (λ h. (h .0, ap not (broken c (inl (h .1)))))
       (λ h. (subst (λ x. x < t .bucketCount) (h .4) (mod-lt (hashOf t (h .0)) some-bucket), ap not (broken c (inr h)))))
       (λ c h. ⊎-elim (λ s. inl (h .0, s)) inr (why c (not-true (bucketRight t c) (h .1))))

@@ -56,7 +56,8 @@ hashIn class order symbols strings i = gnuHash (Option·getD (nameOf class order
 
 unfoldable pub lastIn : Class → Order → (symbols strings : List ℕ) → (buckets count : ℕ) → ℕ → Bool
 lastIn class order symbols strings buckets count i =
-    not (ltb (suc i) count && eqb (hashIn class order symbols strings (suc i) % buckets) (hashIn class order symbols strings i % buckets))
+    not (ltb (suc i) count && eqb (hashIn class order symbols strings (suc i) % buckets)
+    (hashIn class order symbols strings i % buckets))
 
 abbrev pub readableIn : Class → Order → (symbols strings : List ℕ) → ℕ → Bool
 readableIn class order symbols strings i = not (isNone (nameOf class order symbols strings i))

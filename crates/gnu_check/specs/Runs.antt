@@ -1,4 +1,5 @@
--- G9 and G10 by runs of neighbours in one bucket, as one pass over the symbols sees them. No public promise cites this file.
+-- G9 and G10 by runs of neighbours in one bucket, as one pass over the symbols sees them. No public promise cites this
+-- file.
 --     runStart         the start of the run of equal buckets that a hashed symbol is in, by how far it is past symbol_base
 --     misplaced        a symbol whose bucket does not hold the start of its run
 --     stray            a bucket that holds neither 0 nor the start of a run of its own

@@ -34,7 +34,8 @@ pub record Sound (layout : Layout) (count : ℕ) : Type 0 where
   pub shift : layout .«bloom_shift» ≤ 31
 
 unfoldable pub fromBuckets : Table → Checked
-fromBuckets t = verdict (longest t) 9 (lowest (bucketRight t) (from 0 (t .bucketCount)) ∷ lowest (endsAtLast t) (hashed t) ∷ [])
+fromBuckets t =
+    verdict (longest t) 9 (lowest (bucketRight t) (from 0 (t .bucketCount)) ∷ lowest (endsAtLast t) (hashed t) ∷ [])
 
 unfoldable pub fromNames : Table → Checked
 fromNames t =

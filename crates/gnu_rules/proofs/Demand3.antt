@@ -59,7 +59,8 @@ module _ (class : Class) (order : Order) (p : Parts) where
 module _ (class : Class) (order : Order) (p : Parts) (asked : Asked) where
   pub record Matches (k : ℕ) : Type 0 where
     pub name : nameOf class order (p .symbols) (p .strings) k ≡ some (asked .name)
-    pub version : matching order (p .versyms) (p .store) (p .versionStrings) (symbolIndex k) (asked .need) (asked .needName) ≡ true
+    pub version : matching order (p .versyms) (p .store) (p .versionStrings) (symbolIndex k) (asked .need)
+        (asked .needName) ≡ true
 
   pub record LowestMatch (k : ℕ) : Type 0 where
     pub from-base : symbolBase class order p ≤ k
@@ -70,10 +71,12 @@ module _ (class : Class) (order : Order) (p : Parts) (asked : Asked) where
   pub record Demand3 (most : ℕ) (answer : Answer) : Type 0 where
     -- the lookup is not refused
     pub not-refused : (r : Refusal) → ¬ (answer ≡ Refused r)
-    -- it finds symbol k exactly if k is the lowest number, from symbol_base on and below n, whose name is equal and whose version matches
+    -- it finds symbol k exactly if k is the lowest number, from symbol_base on and below n, whose name is equal and whose
+    -- version matches
     pub found : (k : ℕ) → (answer ≡ Found (symbolIndex k) (probesOf answer)) ↔ LowestMatch k
     -- it finds nothing exactly if there is none
-    pub missing : (answer ≡ Missing (probesOf answer)) ↔ ((k : ℕ) → symbolBase class order p ≤ k → k < n class order p → ¬ Matches k)
+    pub missing : (answer ≡ Missing (probesOf answer)) ↔
+        ((k : ℕ) → symbolBase class order p ≤ k → k < n class order p → ¬ Matches k)
     -- its probes are at most the longest chain
     pub few : probesOf answer ≤ most
 
@@ -131,7 +134,8 @@ module _ (class : Class) (order : Order) (p : Parts) (asked : Asked) where
       omega arith
 
   module _ (most probes : ℕ) (few : probes ≤ most) where
-    found-lowest : (i : ℕ) → LowestMatch class order p asked i → Demand3 class order p asked most (Found (symbolIndex i) probes)
+    found-lowest : (i : ℕ) → LowestMatch class order p asked i
+        → Demand3 class order p asked most (Found (symbolIndex i) probes)
     found-lowest i here =
         record {
           not-refused = λ r. found-refused _ _ r;
@@ -139,15 +143,22 @@ module _ (class : Class) (order : Order) (p : Parts) (asked : Asked) where
             (λ h. subst (LowestMatch class order p asked) (found-symbol i k probes probes h) here),
             λ l. ap (λ j. Found (symbolIndex j) probes) (lowest-one i k here l),
           );
-          missing = ((λ h. absurd (found-missing _ _ _ h)), λ h. absurd (h i (here .from-base) (here .below-n) (here .matches)));
+          missing = (
+            (λ h. absurd (found-missing _ _ _ h)),
+            λ h. absurd (h i (here .from-base) (here .below-n) (here .matches)),
+          );
           few = few;
         }
 
-    found-none : ((k : ℕ) → base ≤ k → k < count → ¬ Matches class order p asked k) → Demand3 class order p asked most (Missing probes)
+    found-none : ((k : ℕ) → base ≤ k → k < count → ¬ Matches class order p asked k)
+        → Demand3 class order p asked most (Missing probes)
     found-none nothing =
         record {
           not-refused = λ r. missing-refused _ r;
-          found = λ k. ((λ h. absurd (found-missing _ _ _ (sym h))), λ l. absurd (nothing k (l .from-base) (l .below-n) (l .matches)));
+          found = λ k. (
+            (λ h. absurd (found-missing _ _ _ (sym h))),
+            λ l. absurd (nothing k (l .from-base) (l .below-n) (l .matches)),
+          );
           missing = ((λ h. nothing), λ h. refl);
           few = few;
         }
@@ -158,7 +169,8 @@ module _ (class : Class) (order : Order) (p : Parts) (asked : Asked) where
     by-first within none e =
         found-none
         (λ k lo hi. not-wanted k
-        (from-all (λ j. want j ≡ false) base (count - base) (none-firstOf want (from base (count - base)) e) k lo (omega arith)))
+        (from-all (λ j. want j ≡ false) base (count - base) (none-firstOf want (from base (count - base)) e) k lo
+        (omega arith)))
     by-first within (some i) e =
         let all : base + (count - base) ≡ count = omega arith in
         found-lowest i (lowest-match i (rw all at (firstOf-lowest want base (count - base) i e)))
@@ -187,8 +199,8 @@ all-short [] ys h k = k
 all-short (x ∷ xs) ys h k =
     by-test (ltb limit (length x)) (λ e. absurd (true≢false (rw e at h))) (λ e. rw e (all-short xs ys (rw e at h) k))
 
--- if the checker accepts these symbols, strings, class and order, then for any name with its own GNU hash, any version table and any
--- need, all within the size limit
+-- if the checker accepts these symbols, strings, class and order, then for any name with its own GNU hash, any version
+-- table and any need, all within the size limit
 pub demand-3 : (class : Class) (order : Order) (p : Parts) (most : ℕ)
     → gnuCheck class order (p .table) (p .symbols) (p .strings) ≡ Accepted most
     → (asked : Asked) → anyLong (p .versyms ∷ p .versionStrings ∷ asked .name ∷ asked .needName ∷ []) ≡ false
@@ -200,12 +212,14 @@ demand-3 class order p most accepted asked short =
     let kept = rules t most (a .table) in
     let f = finds-lowest t kept (asked .name) (wanted class order p asked) (wanted-named class order p asked) in
     rw (all-short (p .table ∷ p .symbols ∷ p .strings ∷ []) _ (a .short) short, a .header, f .answer)
-    (by-first class order p asked most (f .probes) (subst (λ m. f .probes ≤ m) (accepted-longest t most (a .table)) (f .few))
+    (by-first class order p asked most (f .probes)
+    (subst (λ m. f .probes ≤ m) (accepted-longest t most (a .table)) (f .few))
     (kept .base-high) (firstOf (wanted class order p asked) (hashed t)) refl)
 
--- two lookups that each state a version and get the same symbol asked for one name and one version; in any table, accepted or not, and by
--- any hashes
-pub demand-3-last : (class : Class) (order : Order) (p : Parts) (asked asked′ : Asked) (hash hash′ needed needed′ k probes probes′ : ℕ)
+-- two lookups that each state a version and get the same symbol asked for one name and one version; in any table, accepted
+-- or not, and by any hashes
+pub demand-3-last : (class : Class) (order : Order) (p : Parts) (asked asked′ : Asked)
+    (hash hash′ needed needed′ k probes probes′ : ℕ)
     → asked .need ≡ Need.Hash needed → asked′ .need ≡ Need.Hash needed′
     → gnuFind class order p asked hash ≡ Found (symbolIndex k) probes
     → gnuFind class order p asked′ hash′ ≡ Found (symbolIndex k) probes′

@@ -1,6 +1,7 @@
--- In a table that keeps the rules, a lookup by the name's own hash finds the lowest symbol that is wanted.
--- The bucket of the hash holds exactly the symbols v, v + 1, .., v + k (G9), and the chain from v ends at v + k (G10): the chain is the bucket.
--- A wanted symbol is in that bucket, its value compares equal (G7) and its bloom bits are set (G8). Assumes nothing.
+-- In a table that keeps the rules, a lookup by the name's own hash finds the lowest symbol that is wanted. The bucket of
+-- the hash holds exactly the symbols v, v + 1, .., v + k (G9), and the chain from v ends at v + k (G10): the chain is the
+-- bucket. A wanted symbol is in that bucket, its value compares equal (G7) and its bloom bits are set (G8). Assumes
+-- nothing.
 use Prim.Native.Nat.{ℕ, suc, _+_, _-_, _%_, _≤_, _<_, min}
 use mathlib.Core.Path.{_≡_, refl, sym, ap, _∙_}
 use mathlib.Core.Bool.{Bool, true, false, cond, _&&_}
@@ -39,7 +40,8 @@ module _ (t : Table) (r : Rules t) where
         let whole : min (t .count - v) (t .valueCount - (v - t .base)) ≡ suc (k + m) = omega arith in
         rw whole
         (upTo-from (λ i. odd (valueOf t i)) v k m
-        (λ i lo hi. beq-eq _ _ (r .ended i (inside t b v k run i lo (omega arith) .0 .0) (inside t b v k run i lo (omega arith) .0 .1)) ∙ not-last t b v k run i lo hi)
+        (λ i lo hi. beq-eq _ _ (r .ended i (inside t b v k run i lo (omega arith) .0 .0)
+        (inside t b v k run i lo (omega arith) .0 .1)) ∙ not-last t b v k run i lo hi)
         (beq-eq _ _ (r .ended (v + k) (end .0 .0) (end .0 .1)) ∙ last t b v k run))
 
     starts-is : starts t v ≡ true
@@ -47,7 +49,12 @@ module _ (t : Table) (r : Rules t) where
         let start = inside t b v k run v (omega arith) (omega arith) in
         let low = r .base-low in
         let values = r .values in
-        rw (ne-eqb v 0 (omega arith), le-leb v (t .count) (omega arith), le-leb (t .base) v (omega arith), le-leb (v - t .base) (t .valueCount) (omega arith))
+        rw (
+          ne-eqb v 0 (omega arith),
+          le-leb v (t .count) (omega arith),
+          le-leb (t .base) v (omega arith),
+          le-leb (v - t .base) (t .valueCount) (omega arith),
+        )
 
   module _ (name : List ℕ) (wanted : ℕ → Bool) (named : (i : ℕ) → wanted i ≡ true → t .name i ≡ some name) where
     hash-is : (i : ℕ) → wanted i ≡ true → hashOf t i ≡ gnuHash name
@@ -58,12 +65,14 @@ module _ (t : Table) (r : Rules t) where
     in-bucket i h = eq-eqb _ _ (ap (λ x. x % t .bucketCount) (hash-is i h))
 
     -- a test that every hashed symbol passes, and the name does not: nothing is wanted
-    none-wanted : (test : ℕ → Bool) → ((i : ℕ) → t .base ≤ i → i < t .count → test (hashOf t i) ≡ true) → test (gnuHash name) ≡ false
+    none-wanted : (test : ℕ → Bool) → ((i : ℕ) → t .base ≤ i → i < t .count → test (hashOf t i) ≡ true)
+        → test (gnuHash name) ≡ false
         → firstOf wanted (hashed t) ≡ none
     none-wanted test all-pass fails =
         firstOf-none wanted (hashed t)
         (all-from (λ i. wanted i ≡ false) (t .base) (t .count - t .base)
-        (λ i lo hi. by-test (wanted i) (λ h. let pass = all-pass i lo (omega arith) in let same = hash-is i h in cc) (λ h. h)))
+        (λ i lo hi. by-test (wanted i) (λ h. let pass = all-pass i lo (omega arith) in let same = hash-is i h in cc)
+        (λ h. h)))
 
     -- the bucket's symbols in order hold the first wanted one
     first-member : firstOf wanted (members t (gnuHash name % t .bucketCount)) ≡ firstOf wanted (hashed t)
@@ -83,7 +92,8 @@ module _ (t : Table) (r : Rules t) where
     nothing : firstOf wanted (hashed t) ≡ none → FindsLowest t wanted (Missing 0)
     nothing h = record { probes = 0; answer = rw h; few = omega arith }
 
-    walk-is : (b : ℕ) → b < t .bucketCount → firstOf wanted (members t b) ≡ firstOf wanted (hashed t) → FindsLowest t wanted (walk tested (members t b))
+    walk-is : (b : ℕ) → b < t .bucketCount → firstOf wanted (members t b) ≡ firstOf wanted (hashed t)
+        → FindsLowest t wanted (walk tested (members t b))
     unfolding longest
     walk-is b hb same =
         record {
@@ -115,12 +125,18 @@ module _ (t : Table) (r : Rules t) where
 
         go : (ms : List ℕ) → members t b ≡ ms → holds (t .bucket b) ms ≡ true
             → FindsLowest t wanted (walkAt t (gnuHash name) wanted (cond (starts t (t .bucket b)) (t .bucket b) 0))
-        go [] none-there h = rw (eq-eqb (t .bucket b) 0 (eqb-true (t .bucket b) 0 h)) (nothing (sym first-member ∙ ap (firstOf wanted) none-there))
+        go [] none-there h =
+            rw (eq-eqb (t .bucket b) 0 (eqb-true (t .bucket b) 0 h))
+            (nothing (sym first-member ∙ ap (firstOf wanted) none-there))
         go (m ∷ ms) there h =
             let run = there ∙ holds-run (t .bucket b) m ms h in
             let start = inside t b (t .bucket b) (length ms) run (t .bucket b) (omega arith) (omega arith) in
             let low = r .base-low in
-            rw (starts-is b (t .bucket b) (length ms) run, ne-eqb (t .bucket b) 0 (omega arith), chain-is b (t .bucket b) (length ms) run ∙ sym run)
+            rw (
+              starts-is b (t .bucket b) (length ms) run,
+              ne-eqb (t .bucket b) 0 (omega arith),
+              chain-is b (t .bucket b) (length ms) run ∙ sym run,
+            )
             (walk-is b b-low first-member)
 
     pub finds-lowest : FindsLowest t wanted (lookup t (gnuHash name) wanted)
@@ -131,5 +147,7 @@ module _ (t : Table) (r : Rules t) where
         (by-test (bloomFirst t (gnuHash name))
         (λ one. by-test (bloomSecond t (gnuHash name))
         (λ two. rw (one, two) bucket-is)
-        (λ unset. rw (one, unset) (nothing (none-wanted (bloomSecond t) (λ i lo hi. and-right (bloomFirst t (hashOf t i)) (bloomSecond t (hashOf t i)) (r .bloomed i lo hi)) unset))))
-        (λ unset. rw unset (nothing (none-wanted (bloomFirst t) (λ i lo hi. and-left (bloomFirst t (hashOf t i)) (bloomSecond t (hashOf t i)) (r .bloomed i lo hi)) unset))))
+        (λ unset. rw (one, unset) (nothing (none-wanted (bloomSecond t)
+        (λ i lo hi. and-right (bloomFirst t (hashOf t i)) (bloomSecond t (hashOf t i)) (r .bloomed i lo hi)) unset))))
+        (λ unset. rw unset (nothing (none-wanted (bloomFirst t)
+        (λ i lo hi. and-left (bloomFirst t (hashOf t i)) (bloomSecond t (hashOf t i)) (r .bloomed i lo hi)) unset))))

@@ -78,6 +78,7 @@ rules t most h =
       readable = lowest-hashed t (nameReadable t) (n .1 .1 .1 .1 .1 .0);
       valued = lowest-hashed t (valueIsHash t) (n .1 .1 .1 .1 .1 .1 .0);
       bloomed = lowest-hashed t (bloomBitsSet t) (n .1 .1 .1 .1 .1 .1 .1 .0);
-      placed = λ b hi. lowest-none (bucketRight t) 0 (t .bucketCount) (n .1 .1 .1 .1 .1 .1 .1 .1 .0) b (omega arith) (omega arith);
+      placed = λ b hi. lowest-none (bucketRight t) 0 (t .bucketCount) (n .1 .1 .1 .1 .1 .1 .1 .1 .0) b (omega arith)
+          (omega arith);
       ended = lowest-hashed t (endsAtLast t) (n .1 .1 .1 .1 .1 .1 .1 .1 .1 .0);
     }

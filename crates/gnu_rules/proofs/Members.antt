@@ -23,7 +23,8 @@ use Rattle.gnu_rules.specs.Rules.{bucketOf, inBucket, members, isLast, h
 pub holds-run : (v m : ℕ) (ms : List ℕ) → holds v (m ∷ ms) ≡ true → m ∷ ms ≡ from v (suc (length ms))
 holds-run v m ms h =
     let lowest = eqb-true v m (and-left (eqb v m) (same (m ∷ ms) (from m (suc (length ms)))) h) in
-    let run = same-true (m ∷ ms) (from m (suc (length ms))) (and-right (eqb v m) (same (m ∷ ms) (from m (suc (length ms)))) h) in
+    let run = same-true (m ∷ ms) (from m (suc (length ms)))
+    (and-right (eqb v m) (same (m ∷ ms) (from m (suc (length ms)))) h) in
     rw lowest run
 
 pub run-holds : (v m : ℕ) (ms : List ℕ) → m ∷ ms ≡ from v (suc (length ms)) → holds v (m ∷ ms) ≡ true
@@ -40,7 +41,8 @@ all-members t b =
 pub members-all : (t : Table) (b : ℕ) (P : ℕ → Type 0) → All P (members t b)
     → (i : ℕ) → t .base ≤ i → i < t .count → inBucket t b i ≡ true → P i
 members-all t b P h i lo hi =
-    from-all (λ i. inBucket t b i ≡ true → P i) (t .base) (t .count - t .base) (select-all (inBucket t b) P (hashed t) h) i lo (omega arith)
+    from-all (λ i. inBucket t b i ≡ true → P i) (t .base) (t .count - t .base)
+    (select-all (inBucket t b) P (hashed t) h) i lo (omega arith)
 
 pub no-member : (t : Table) (b : ℕ) → members t b ≡ [] → (i : ℕ) → t .base ≤ i → i < t .count → inBucket t b i ≡ true → ⊥
 no-member t b e = members-all t b (λ i. ⊥) (subst⁻¹ (All _) e tt)
@@ -50,7 +52,8 @@ module _ (t : Table) (b v k : ℕ) (run : members t b ≡ from v (suc k)) where
   inside = from-all _ v (suc k) (subst (All _) run (all-members t b))
 
   pub outside : (i : ℕ) → t .base ≤ i → i < t .count → inBucket t b i ≡ true → (v ≤ i) × (i < v + suc k)
-  outside = members-all t b (λ i. (v ≤ i) × (i < v + suc k)) (subst⁻¹ (All _) run (all-from _ v (suc k) (λ i lo hi. (lo, hi))))
+  outside =
+      members-all t b (λ i. (v ≤ i) × (i < v + suc k)) (subst⁻¹ (All _) run (all-from _ v (suc k) (λ i lo hi. (lo, hi))))
 
   pub last : isLast t (v + k) ≡ true
   unfolding isLast
@@ -59,7 +62,8 @@ module _ (t : Table) (b v k : ℕ) (run : members t b ≡ from v (suc k)) where
       let e = eqb-true (bucketOf t (v + k)) b (end .1) in
       let none-later =
       all-from (λ i. inBucket t b i ≡ false) (suc (v + k)) (t .count - suc (v + k))
-      (λ i lo hi. by-test (inBucket t b i) (λ h. let o = outside i (omega arith) (omega arith) h in absurd (omega arith)) (λ h. h)) in
+      (λ i lo hi. by-test (inBucket t b i) (λ h. let o = outside i (omega arith) (omega arith) h in absurd (omega arith))
+      (λ h. h)) in
       rw (e, firstOf-none (inBucket t b) (from (suc (v + k)) (t .count - suc (v + k))) none-later) refl
 
   pub not-last : (i : ℕ) → v ≤ i → i < v + k → isLast t i ≡ false

@@ -1,4 +1,5 @@
--- `gnu_check::blooms::has_bits` meets its contract: the filter lets the symbol's hash pass exactly if both bits are set. Assumes nothing.
+-- `gnu_check::blooms::has_bits` meets its contract: the filter lets the symbol's hash pass exactly if both bits are set.
+-- Assumes nothing.
 use mathlib.Core.Path.{_≡_, sym, _∙_}
 use borrow.Author.Needs.{needs}
 use Rattle.gnu.specs.declared.filter.Bloom.{Bloom}
@@ -27,11 +28,13 @@ enum-told-3 c = search needs
 bits : (c : tie.After-bloom-filter) (bloom : Bloom) → c .bloom-filter .result ≡ bloom
     → let a = c .before .before .before .before .before .args in
     passes bloom
-    ≡ bloomBitsSet (tableWith (a .class) (a .order) (a .table .now) (a .symbols .now) (a .strings .now) (a .layout) 0) (a .i)
+    ≡ bloomBitsSet (tableWith (a .class) (a .order) (a .table .now) (a .symbols .now) (a .strings .now) (a .layout) 0)
+    (a .i)
 bits c bloom told =
     let start = c .before .before .before .before .before in
     let a = start .args in
-    bits-set (a .class) (a .order) (a .table .now) (a .symbols .now) (a .strings .now) (a .layout) (a .i) (start .pre .0) (start .pre .1)
+    bits-set (a .class) (a .order) (a .table .now) (a .symbols .now) (a .strings .now) (a .layout) (a .i) (start .pre .0)
+    (start .pre .1)
     (c .before .symbol-hash .result) (c .before .symbol-hash .ensures) bloom (sym told ∙ c .bloom-filter .ensures)
 
 returns : tie.Need-returns

@@ -1,5 +1,5 @@
--- `gnu_check::blooms::lowest_unset` meets its contract. The invariant: the first from here on is the first of all. The measure is what is left
--- of the symbols. Assumes nothing.
+-- `gnu_check::blooms::lowest_unset` meets its contract. The invariant: the first from here on is the first of all. The
+-- measure is what is left of the symbols. Assumes nothing.
 use Prim.Native.Nat.{ℕ, _-_}
 use mathlib.Core.Path.{_≡_, sym, ap, _∙_}
 use mathlib.Core.Bool.{Bool, not}
@@ -17,7 +17,8 @@ use Rattle.gnu_check.proofs.blooms.lowest_unset.Statement.{statement}
 use Rattle.gnu_check.proofs.blooms.lowest_unset.Tie as tie
 
 abbrev broken : Class → Order → (table symbols strings : List ℕ) → Layout → (count : ℕ) → ℕ → Bool
-broken class order table symbols strings layout count i = not (bloomBitsSet (tableWith class order table symbols strings layout count) i)
+broken class order table symbols strings layout count i =
+    not (bloomBitsSet (tableWith class order table symbols strings layout count) i)
 
 abbrev Inv-loop : tie.InvT-loop
 Inv-loop class order table symbols strings layout count i₀ i =
@@ -36,7 +37,8 @@ has-bits-requires c κs = search needs
 tested : (c : tie.After-has-bits Inv-loop μ-loop)
     → let a = c .before .before .before .before .before .before .args in
     c .has-bits .result
-    ≡ bloomBitsSet (tableWith (a .class) (a .order) (a .table .now) (a .symbols .now) (a .strings .now) (a .layout) (a .count)) (c .before .before .loop .i)
+    ≡ bloomBitsSet (tableWith (a .class) (a .order) (a .table .now) (a .symbols .now) (a .strings .now) (a .layout)
+    (a .count)) (c .before .before .loop .i)
 unfolding hashOf bloomFirst bloomSecond
 tested c = c .has-bits .ensures
 

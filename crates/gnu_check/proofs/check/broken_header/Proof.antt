@@ -38,7 +38,8 @@ returns-5 c =
     rw (
       le-leb _ _ (c .before .before .before .before .before .before .before .before .if1 .left),
       le-leb _ _ (c .before .before .before .before .before .before .if2 .left),
-      sym (c .before .before .before .before .before .is-power-of-two .ensures) ∙ not-false _ (c .before .before .before .before .if3 .left),
+      sym (c .before .before .before .before .before .is-power-of-two .ensures)
+          ∙ not-false _ (c .before .before .before .before .if3 .left),
       le-leb _ _ (c .before .before .if4 .left),
       lt-leb _ _ (c .if5 .taken),
     )
@@ -49,7 +50,8 @@ returns-6 c =
     rw (
       le-leb _ _ (c .before .before .before .before .before .before .before .before .before .before .before .if1 .left),
       le-leb _ _ (c .before .before .before .before .before .before .before .before .before .if2 .left),
-      sym (c .before .before .before .before .before .before .before .before .is-power-of-two .ensures) ∙ not-false _ (c .before .before .before .before .before .before .before .if3 .left),
+      sym (c .before .before .before .before .before .before .before .before .is-power-of-two .ensures)
+          ∙ not-false _ (c .before .before .before .before .before .before .before .if3 .left),
       le-leb _ _ (c .before .before .before .before .before .if4 .left),
       le-leb _ _ (c .before .before .before .if5 .left),
       lt-leb _ _ (c .if6 .taken),
@@ -61,7 +63,8 @@ returns-7 c =
     rw (
       le-leb _ _ (c .before .before .before .before .before .before .before .before .before .before .before .if1 .left),
       le-leb _ _ (c .before .before .before .before .before .before .before .before .before .if2 .left),
-      sym (c .before .before .before .before .before .before .before .before .is-power-of-two .ensures) ∙ not-false _ (c .before .before .before .before .before .before .before .if3 .left),
+      sym (c .before .before .before .before .before .before .before .before .is-power-of-two .ensures)
+          ∙ not-false _ (c .before .before .before .before .before .before .before .if3 .left),
       le-leb _ _ (c .before .before .before .before .before .if4 .left),
       le-leb _ _ (c .before .before .before .if5 .left),
       le-leb _ _ (c .if6 .left),

@@ -10,7 +10,8 @@ use Rattle.gnu_check.proofs.check.check.Tie as tie
 returns : tie.Need-returns
 returns c =
     let a = c .before .before .before .before .args in
-    check-told (a .class) (a .order) (a .table .now) (a .symbols .now) (a .strings .now) true _ _ (lt-ltb _ _ (c .if1 .taken)) refl refl
+    check-told (a .class) (a .order) (a .table .now) (a .symbols .now)
+    (a .strings .now) true _ _ (lt-ltb _ _ (c .if1 .taken)) refl refl
 
 symbol-count-requires : tie.Need-symbol-count-requires
 symbol-count-requires c κs = search needs
@@ -25,7 +26,8 @@ returns-2 : tie.Need-returns-2
 returns-2 c =
     let counted = c .before .before in
     let a = c .before .before .before .before .before .before .before .args in
-    check-told (a .class) (a .order) (a .table .now) (a .symbols .now) (a .strings .now) false _ _ (le-ltb _ _ (counted .before .if1 .left))
+    check-told (a .class) (a .order) (a .table .now) (a .symbols .now)
+    (a .strings .now) false _ _ (le-ltb _ _ (counted .before .if1 .left))
     (sym (c .enum-told .given .1) ∙ counted .symbol-count .ensures) refl
 
 header-requires : tie.Need-header-requires
@@ -46,16 +48,20 @@ returns-3 c =
     let counted = called .before .before .before .before in
     let a = c .before .before .before .before .before .before .before .before .before .before .before .before .before .args in
     c .check-table .ensures
-    ∙ check-told (a .class) (a .order) (a .table .now) (a .symbols .now) (a .strings .now) false _ _ (le-ltb _ _ (counted .before .if1 .left))
-    (sym (called .before .before .counted .given .1) ∙ counted .symbol-count .ensures) (sym (c .before .before .layout .given .1) ∙ called .header .ensures)
+    ∙ check-told (a .class) (a .order) (a .table .now) (a .symbols .now)
+    (a .strings .now) false _ _ (le-ltb _ _ (counted .before .if1 .left))
+    (sym (called .before .before .counted .given .1) ∙ counted .symbol-count .ensures)
+    (sym (c .before .before .layout .given .1) ∙ called .header .ensures)
 
 returns-4 : tie.Need-returns-4
 returns-4 c =
     let called = c .before .before .before in
     let counted = called .before .before .before .before in
     let a = c .before .before .before .before .before .before .before .before .before .before .before .before .args in
-    check-told (a .class) (a .order) (a .table .now) (a .symbols .now) (a .strings .now) false _ _ (le-ltb _ _ (counted .before .if1 .left))
-    (sym (called .before .before .counted .given .1) ∙ counted .symbol-count .ensures) (sym (c .before .refusal .given .1) ∙ called .header .ensures)
+    check-told (a .class) (a .order) (a .table .now) (a .symbols .now)
+    (a .strings .now) false _ _ (le-ltb _ _ (counted .before .if1 .left))
+    (sym (called .before .before .counted .given .1) ∙ counted .symbol-count .ensures)
+    (sym (c .before .refusal .given .1) ∙ called .header .ensures)
 
 pub check-spec : {M : Type 1} → statement M
 check-spec =

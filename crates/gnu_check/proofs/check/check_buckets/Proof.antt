@@ -14,10 +14,13 @@ use Rattle.gnu_check.proofs.check.check_buckets.Tie as tie
 
 -- the table of the arguments
 abbrev table-of : tie.Start → Table
-table-of c = let a = c .args in tableWith (a .class) (a .order) (a .table .now) (a .symbols .now) (a .strings .now) (a .layout) (a .count)
+table-of c =
+    let a = c .args in
+    tableWith (a .class) (a .order) (a .table .now) (a .symbols .now) (a .strings .now) (a .layout) (a .count)
 
 -- no bucket is wrong
-nine : (c : tie.Else1) → let t = table-of (c .before .before .before .before .before .before) in lowest (bucketRight t) (from 0 (t .bucketCount)) ≡ none
+nine : (c : tie.Else1) → let t = table-of (c .before .before .before .before .before .before) in lowest (bucketRight t)
+    (from 0 (t .bucketCount)) ≡ none
 nine c =
     let start = c .before .before .before .before .before .before in
     let called = c .before .before .lowest-wrong-bucket in

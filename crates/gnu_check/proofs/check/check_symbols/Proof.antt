@@ -11,20 +11,26 @@ use Rattle.gnu_check.proofs.check.check_symbols.Tie as tie
 
 -- the table of the arguments
 abbrev table-of : tie.Start → Table
-table-of c = let a = c .args in tableWith (a .class) (a .order) (a .table .now) (a .symbols .now) (a .strings .now) (a .layout) (a .count)
+table-of c =
+    let a = c .args in
+    tableWith (a .class) (a .order) (a .table .now) (a .symbols .now) (a .strings .now) (a .layout) (a .count)
 
 -- every name can be read, and every value is right
-six : (c : tie.Else1) → lowest (nameReadable (table-of (c .before .before .before .before .before))) (hashed (table-of (c .before .before .before .before .before))) ≡ none
+six : (c : tie.Else1) → lowest (nameReadable (table-of (c .before .before .before .before .before)))
+    (hashed (table-of (c .before .before .before .before .before))) ≡ none
 six c =
     let start = c .before .before .before .before .before in
     let t = table-of start in
-    lowest-nowhere t (start .pre .0 .base) (nameReadable t) (c .before .lowest-unreadable .result) (c .before .lowest-unreadable .ensures) (c .if1 .left)
+    lowest-nowhere t (start .pre .0 .base) (nameReadable t) (c .before .lowest-unreadable .result)
+    (c .before .lowest-unreadable .ensures) (c .if1 .left)
 
-seven : (c : tie.Else2) → lowest (valueIsHash (table-of (c .before .before .before .before .before .before .before))) (hashed (table-of (c .before .before .before .before .before .before .before))) ≡ none
+seven : (c : tie.Else2) → lowest (valueIsHash (table-of (c .before .before .before .before .before .before .before)))
+    (hashed (table-of (c .before .before .before .before .before .before .before))) ≡ none
 seven c =
     let start = c .before .before .before .before .before .before .before in
     let t = table-of start in
-    lowest-nowhere t (start .pre .0 .base) (valueIsHash t) (c .before .lowest-wrong-value .result) (c .before .lowest-wrong-value .ensures) (c .if2 .left)
+    lowest-nowhere t (start .pre .0 .base) (valueIsHash t) (c .before .lowest-wrong-value .result)
+    (c .before .lowest-wrong-value .ensures) (c .if2 .left)
 
 lowest-unreadable-requires : tie.Need-lowest-unreadable-requires
 lowest-unreadable-requires c κs = search needs
@@ -33,7 +39,8 @@ returns : tie.Need-returns
 returns c =
     let start = c .before .before .before .before .before in
     let t = table-of start in
-    sym (from-names-6 t _ (lowest-at t (start .pre .0 .base) (nameReadable t) (c .before .lowest-unreadable .result) (c .before .lowest-unreadable .ensures) (c .if1 .taken)))
+    sym (from-names-6 t _ (lowest-at t (start .pre .0 .base) (nameReadable t) (c .before .lowest-unreadable .result)
+    (c .before .lowest-unreadable .ensures) (c .if1 .taken)))
 
 lowest-wrong-value-requires : tie.Need-lowest-wrong-value-requires
 lowest-wrong-value-requires c κs = search needs
@@ -42,7 +49,8 @@ returns-2 : tie.Need-returns-2
 returns-2 c =
     let start = c .before .before .before .before .before .before .before in
     let t = table-of start in
-    sym (from-names-7 t (six (c .before .before)) _ (lowest-at t (start .pre .0 .base) (valueIsHash t) (c .before .lowest-wrong-value .result) (c .before .lowest-wrong-value .ensures) (c .if2 .taken)))
+    sym (from-names-7 t (six (c .before .before)) _ (lowest-at t (start .pre .0 .base) (valueIsHash t)
+    (c .before .lowest-wrong-value .result) (c .before .lowest-wrong-value .ensures) (c .if2 .taken)))
 
 lowest-unset-requires : tie.Need-lowest-unset-requires
 lowest-unset-requires c κs = search needs
@@ -52,13 +60,17 @@ returns-3 c =
     let start = c .before .before .before .before .before .before .before .before .before in
     let t = table-of start in
     sym (from-names-8 t (six (c .before .before .before .before)) (seven (c .before .before)) _
-    (lowest-at t (start .pre .0 .base) (bloomBitsSet t) (c .before .lowest-unset .result) (c .before .lowest-unset .ensures) (c .if3 .taken)))
+    (lowest-at t (start .pre .0 .base) (bloomBitsSet t) (c .before .lowest-unset .result)
+    (c .before .lowest-unset .ensures) (c .if3 .taken)))
 
 check-buckets-requires : tie.Need-check-buckets-requires
 check-buckets-requires c κs =
     let start = c .before .before .before .before .before .before .before .before .before in
-    let t = table-of start in
-    (start .pre .0 .buckets, start .pre .0 .base, all-kept t (start .pre .0 .base) (valueIsHash t) (seven (c .before .before)))
+    let t = table-of start in (
+      start .pre .0 .buckets,
+      start .pre .0 .base,
+      all-kept t (start .pre .0 .base) (valueIsHash t) (seven (c .before .before)),
+    )
 
 returns-4 : tie.Need-returns-4
 returns-4 c =
@@ -66,7 +78,8 @@ returns-4 c =
     let t = table-of start in
     c .check-buckets .ensures
     ∙ sym (from-names-kept t (six (c .before .before .before .before .before)) (seven (c .before .before .before))
-    (lowest-nowhere t (start .pre .0 .base) (bloomBitsSet t) (c .before .before .lowest-unset .result) (c .before .before .lowest-unset .ensures) (c .before .if3 .left)))
+    (lowest-nowhere t (start .pre .0 .base) (bloomBitsSet t) (c .before .before .lowest-unset .result)
+    (c .before .before .lowest-unset .ensures) (c .before .if3 .left)))
 
 pub check-symbols-spec : {M : Type 1} → statement M
 check-symbols-spec =

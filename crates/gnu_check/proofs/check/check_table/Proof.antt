@@ -1,4 +1,5 @@
--- `gnu_check::check::check_table` meets its contract: the answer by the first broken rule of G1 to G5, or what follows. Assumes nothing.
+-- `gnu_check::check::check_table` meets its contract: the answer by the first broken rule of G1 to G5, or what follows.
+-- Assumes nothing.
 use mathlib.Core.Path.{_∙_}
 use borrow.Author.Needs.{needs}
 use Rattle.gnu_check.proofs.Judged.{header-broken, header-kept, header-sound}

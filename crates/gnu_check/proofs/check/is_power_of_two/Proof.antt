@@ -1,5 +1,5 @@
--- `gnu_check::check::is_power_of_two` meets its contract. The invariant: the first power from here on is the first of all. The measure is what
--- is left of 32. Assumes nothing.
+-- `gnu_check::check::is_power_of_two` meets its contract. The invariant: the first power from here on is the first of all.
+-- The measure is what is left of 32. Assumes nothing.
 use Prim.Native.Nat.{_-_}
 use mathlib.Core.Path.{sym, _∙_}
 use native.Mathlib.Omega.{arith}
@@ -27,7 +27,8 @@ returns c =
     let at-loop = c .before .before in
     let n = at-loop .before .args .n in
     let k = at-loop .loop .k in
-    sym (power-found n k (searching-here _ _ _ k (at-loop .loop .inv) (c .before .loop-test .taken) (eq-eqb _ _ (c .if1 .taken ∙ shifted k (c .before .loop-test .taken)))) (c .before .loop-test .taken))
+    sym (power-found n k (searching-here _ _ _ k (at-loop .loop .inv) (c .before .loop-test .taken)
+    (eq-eqb _ _ (c .if1 .taken ∙ shifted k (c .before .loop-test .taken)))) (c .before .loop-test .taken))
 
 add-k : tie.Need-add-k Inv-loop μ-loop
 add-k c = search needs
@@ -38,12 +39,14 @@ loop-less c = search needs
 loop-again : tie.Need-loop-again Inv-loop μ-loop
 loop-again c =
     let at-loop = c .before .before in
-    searching-next _ _ _ (at-loop .loop .k) (at-loop .loop .inv) (c .before .loop-test .taken) (ne-eqb _ _ (λ e. c .if1 .left (e ∙ sym (shifted (at-loop .loop .k) (c .before .loop-test .taken)))))
+    searching-next _ _ _ (at-loop .loop .k) (at-loop .loop .inv) (c .before .loop-test .taken)
+    (ne-eqb _ _ (λ e. c .if1 .left (e ∙ sym (shifted (at-loop .loop .k) (c .before .loop-test .taken)))))
 
 returns-2 : tie.Need-returns-2 Inv-loop μ-loop
 returns-2 c =
     let at-loop = c .before in
-    sym (power-none (at-loop .before .args .n) (searching-end _ _ _ (at-loop .loop .k) (at-loop .loop .inv) (c .loop-test .left)))
+    sym (power-none (at-loop .before .args .n)
+    (searching-end _ _ _ (at-loop .loop .k) (at-loop .loop .inv) (c .loop-test .left)))
 
 pub is-power-of-two-spec : {M : Type 1} → statement M
 is-power-of-two-spec =

@@ -1,5 +1,5 @@
--- `gnu_check::ends::longest_chain` meets its contract. The invariant: the larger of the longest so far and of what the rest gives is the
--- answer. The measure is what is left of the symbols. Assumes nothing.
+-- `gnu_check::ends::longest_chain` meets its contract. The invariant: the larger of the longest so far and of what the rest
+-- gives is the answer. The measure is what is left of the symbols. Assumes nothing.
 use Prim.Native.Nat.{ℕ, _+_, _-_, _*_, _≤_}
 use mathlib.Core.List.{List}
 use native.Mathlib.Omega.{arith}
@@ -60,7 +60,9 @@ cast-result c =
     omega arith
 
 returns : tie.Need-returns Inv-loop μ-loop
-returns c = chaining-end _ _ _ (c .before .loop .longest) (c .before .loop .start) (c .before .loop .i) (c .before .loop .inv) (c .loop-test .left)
+returns c =
+    chaining-end _ _ _ (c .before .loop .longest) (c .before .loop .start) (c .before .loop .i) (c .before .loop .inv)
+    (c .loop-test .left)
 
 pub longest-chain-spec : {M : Type 1} → statement M
 longest-chain-spec =

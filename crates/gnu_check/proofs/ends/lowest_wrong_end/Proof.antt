@@ -1,5 +1,5 @@
--- `gnu_check::ends::lowest_wrong_end` meets its contract. The invariant: the first from here on is the first of all. The measure is what is left
--- of the symbols. Assumes nothing.
+-- `gnu_check::ends::lowest_wrong_end` meets its contract. The invariant: the first from here on is the first of all. The
+-- measure is what is left of the symbols. Assumes nothing.
 use Prim.Native.Nat.{ℕ, _-_}
 use mathlib.Core.Path.{_≡_, sym, ap, _∙_}
 use mathlib.Core.Bool.{Bool, not}
@@ -16,7 +16,8 @@ use Rattle.gnu_check.proofs.ends.lowest_wrong_end.Statement.{statement}
 use Rattle.gnu_check.proofs.ends.lowest_wrong_end.Tie as tie
 
 abbrev broken : Class → Order → (table symbols strings : List ℕ) → Layout → (count : ℕ) → ℕ → Bool
-broken class order table symbols strings layout count i = not (endsRun (tableWith class order table symbols strings layout count) i)
+broken class order table symbols strings layout count i =
+    not (endsRun (tableWith class order table symbols strings layout count) i)
 
 abbrev Inv-loop : tie.InvT-loop
 Inv-loop class order table symbols strings layout count i₀ i =
@@ -29,13 +30,15 @@ loop-holds : tie.Need-loop-holds Inv-loop μ-loop
 loop-holds c = searching-start _ _ _ (c .before .before .before .pre .1)
 
 ends-right-requires : tie.Need-ends-right-requires Inv-loop μ-loop
-ends-right-requires c κs = (c .before .before .before .before .before .pre .0, c .before .loop .inv .low, c .loop-test .taken)
+ends-right-requires c κs =
+    (c .before .before .before .before .before .pre .0, c .before .loop .inv .low, c .loop-test .taken)
 
 -- what was tested is the rule
 tested : (c : tie.After-ends-right Inv-loop μ-loop)
     → let a = c .before .before .before .before .before .before .args in
     c .ends-right .result
-    ≡ endsRun (tableWith (a .class) (a .order) (a .table .now) (a .symbols .now) (a .strings .now) (a .layout) (a .count)) (c .before .before .loop .i)
+    ≡ endsRun (tableWith (a .class) (a .order) (a .table .now) (a .symbols .now) (a .strings .now) (a .layout) (a .count))
+    (c .before .before .loop .i)
 tested c = c .ends-right .ensures
 
 returns : tie.Need-returns Inv-loop μ-loop

@@ -1,5 +1,5 @@
--- `gnu_check::hashes::hash_at` meets its contract. The invariant: hashing the rest of the string, from h, gives the hash. The measure is
--- what is left of the strings. Assumes nothing.
+-- `gnu_check::hashes::hash_at` meets its contract. The invariant: hashing the rest of the string, from h, gives the hash.
+-- The measure is what is left of the strings. Assumes nothing.
 use Prim.Native.Nat.{_-_}
 use mathlib.Core.Path.{_≡_, sym, _∙_}
 use lib.ListN.{length, drop}
@@ -32,7 +32,8 @@ returns-2 : tie.Need-returns-2 Inv-loop μ-loop
 returns-2 c =
     let at-loop = c .before .before .before in
     let s = at-loop .before .before .before .args .strings .now in
-    sym (hashFrom-end (at-loop .loop .h) s (at-loop .loop .i) (c .before .before .loop-test .taken) (c .if2 .taken)) ∙ at-loop .loop .inv
+    sym (hashFrom-end (at-loop .loop .h) s (at-loop .loop .i) (c .before .before .loop-test .taken) (c .if2 .taken))
+    ∙ at-loop .loop .inv
 
 gnu-step-requires : tie.Need-gnu-step-requires Inv-loop μ-loop
 gnu-step-requires c κs = search needs
@@ -48,7 +49,8 @@ loop-again c =
     let at-loop = c .before .before .before .before in
     let s = at-loop .before .before .before .args .strings .now in
     rw (c .gnu-step .ensures)
-    (sym (hashFrom-step (at-loop .loop .h) s (at-loop .loop .i) (c .before .before .before .loop-test .taken) (c .before .if2 .left))
+    (sym (hashFrom-step (at-loop .loop .h) s (at-loop .loop .i) (c .before .before .before .loop-test .taken)
+    (c .before .if2 .left))
     ∙ at-loop .loop .inv)
 
 returns-3 : tie.Need-returns-3 Inv-loop μ-loop

@@ -1,5 +1,5 @@
--- `gnu_check::names::lowest_unreadable` meets its contract. The invariant: the first from here on is the first of all. The measure is what
--- is left of the symbols. Assumes nothing.
+-- `gnu_check::names::lowest_unreadable` meets its contract. The invariant: the first from here on is the first of all. The
+-- measure is what is left of the symbols. Assumes nothing.
 use Prim.Native.Nat.{ℕ, _-_}
 use mathlib.Core.Path.{_≡_, sym, ap, _∙_}
 use mathlib.Core.Bool.{Bool, not}
@@ -36,14 +36,16 @@ starts-below-requires c κs = search needs
 -- what was tested is the rule
 tested : (c : tie.After-starts-below Inv-loop μ-loop)
     → let a = c .before .before .before .before .before .before .args in
-    readableIn (a .class) (a .order) (a .symbols .now) (a .strings .now) (c .before .before .loop .i) ≡ c .starts-below .result
+    readableIn (a .class) (a .order) (a .symbols .now) (a .strings .now) (c .before .before .loop .i)
+    ≡ c .starts-below .result
 tested c =
     let ended = c .before .before .before in
     let start = ended .before .before .before in
     let a = start .args in
     let i = c .before .before .loop .i in
     name-readable (a .class) (a .order) (a .symbols .now) (a .strings .now) i (start .pre .1)
-    ∙ ap (λ end. startsBelow end (symbolAt (a .class) (a .order) (a .symbols .now) (symbolIndex i))) (sym (ended .after-last-zero .ensures))
+    ∙ ap (λ end. startsBelow end (symbolAt (a .class) (a .order) (a .symbols .now) (symbolIndex i)))
+    (sym (ended .after-last-zero .ensures))
     ∙ sym (c .starts-below .ensures)
 
 returns : tie.Need-returns Inv-loop μ-loop

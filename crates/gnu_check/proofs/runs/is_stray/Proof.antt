@@ -13,7 +13,9 @@ use Rattle.gnu_check.proofs.runs.is_stray.Tie as tie
 
 -- the table of the arguments
 abbrev table-of : tie.Start → Table
-table-of c = let a = c .args in tableWith (a .class) (a .order) (a .table .now) (a .symbols .now) (a .strings .now) (a .layout) (a .count)
+table-of c =
+    let a = c .args in
+    tableWith (a .class) (a .order) (a .table .now) (a .symbols .now) (a .strings .now) (a .layout) (a .count)
 
 -- the value that was read is the bucket's
 held : (c : tie.After-bucket-value)
@@ -74,7 +76,10 @@ bucket-of-requires : tie.Need-bucket-of-requires
 bucket-of-requires c κs = search needs
 
 -- the bucket that was computed is the definition's
-bucket-is : (c : tie.After-bucket-of) → c .bucket-of .result ≡ bucketOf (table-of (c .before .before .before .before .before .before .before .before .before .before .before .before)) (c .before .before .before .before .before .before .before .before .bucket-value .result)
+bucket-is : (c : tie.After-bucket-of)
+    → c .bucket-of .result ≡ bucketOf
+    (table-of (c .before .before .before .before .before .before .before .before .before .before .before .before))
+    (c .before .before .before .before .before .before .before .before .bucket-value .result)
 unfolding hashOf hashIn
 bucket-is c = c .bucket-of .ensures .0
 
@@ -85,7 +90,8 @@ returns-5 c =
     let t = table-of start in
     let b = start .args .b in
     let v = read .bucket-value .result in
-    sym (stray-other t b v (held read) (c .before .before .before .before .before .before .before .before .if1 .left) (c .before .before .before .before .before .before .if2 .left) (c .before .before .before .before .before .if3 .left)
+    sym (stray-other t b v (held read) (c .before .before .before .before .before .before .before .before .if1 .left)
+    (c .before .before .before .before .before .before .if2 .left) (c .before .before .before .before .before .if3 .left)
     (λ mine. c .if5 .taken (bucket-is (c .before) ∙ mine)))
 
 returns-6 : tie.Need-returns-6
@@ -95,7 +101,10 @@ returns-6 c =
     let t = table-of start in
     let b = start .args .b in
     let v = read .bucket-value .result in
-    sym (stray-first t b v (held read) (c .before .before .before .before .before .before .before .before .before .before .if1 .left) (c .before .before .before .before .before .before .before .before .if2 .left) (c .before .before .before .before .before .before .before .if3 .left)
+    sym (stray-first t b v (held read)
+    (c .before .before .before .before .before .before .before .before .before .before .if1 .left)
+    (c .before .before .before .before .before .before .before .before .if2 .left)
+    (c .before .before .before .before .before .before .before .if3 .left)
     (sym (bucket-is (c .before .before .before)) ∙ c .before .before .if5 .left) (c .if6 .taken))
 
 sub-bucket-of : tie.Need-sub-bucket-of
@@ -105,7 +114,9 @@ bucket-of-requires-2 : tie.Need-bucket-of-requires-2
 bucket-of-requires-2 c κs = search needs
 
 -- and so is that of the symbol before
-before-is : (c : tie.After-bucket-of2) → c .bucket-of2 .result ≡ bucketOf (table-of (c .before .before .before .before .before .before .before .before .before .before .before .before .before .before .before .before)) (c .before .before .before .before .before .before .before .before .before .before .before .before .bucket-value .result - 1)
+before-is : (c : tie.After-bucket-of2)
+    → c .bucket-of2 .result ≡ bucketOf
+    (table-of (c .before .before .before .before .before .before .before .before .before .before .before .before .before .before .before .before)) (c .before .before .before .before .before .before .before .before .before .before .before .before .bucket-value .result - 1)
 unfolding hashOf hashIn
 before-is c = c .bucket-of2 .ensures .0
 
@@ -117,7 +128,10 @@ returns-7 c =
     let b = start .args .b in
     let v = read .bucket-value .result in
     ap (λ bucket. eqb bucket b) (before-is c)
-    ∙ sym (stray-before t b v (held read) (c .before .before .before .before .before .before .before .before .before .before .before .if1 .left) (c .before .before .before .before .before .before .before .before .before .if2 .left) (c .before .before .before .before .before .before .before .before .if3 .left)
+    ∙ sym (stray-before t b v (held read)
+    (c .before .before .before .before .before .before .before .before .before .before .before .if1 .left)
+    (c .before .before .before .before .before .before .before .before .before .if2 .left)
+    (c .before .before .before .before .before .before .before .before .if3 .left)
     (sym (bucket-is (c .before .before .before .before)) ∙ c .before .before .before .if5 .left) (c .before .if6 .left))
 
 pub is-stray-spec : {M : Type 1} → statement M

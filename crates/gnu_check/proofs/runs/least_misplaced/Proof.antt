@@ -1,5 +1,5 @@
--- `gnu_check::runs::least_misplaced` meets its contract. The invariant: the lesser of the best so far and of what the rest gives is the
--- answer. The measure is what is left of the symbols. Assumes nothing.
+-- `gnu_check::runs::least_misplaced` meets its contract. The invariant: the lesser of the best so far and of what the rest
+-- gives is the answer. The measure is what is left of the symbols. Assumes nothing.
 use Prim.Native.Nat.{_-_}
 use mathlib.Core.Path.{_≡_}
 use borrow.Author.Needs.{needs}
@@ -20,7 +20,8 @@ loop-holds : tie.Need-loop-holds Inv-loop μ-loop
 loop-holds c =
     let start = c .before .before .before in
     let a = start .args in
-    passing-start (tableWith (a .class) (a .order) (a .table .now) (a .symbols .now) (a .strings .now) (a .layout) (a .count))
+    passing-start (tableWith (a .class) (a .order) (a .table .now) (a .symbols .now) (a .strings .now) (a .layout)
+    (a .count))
     (start .pre .0) (start .pre .1)
 
 bucket-of-requires : tie.Need-bucket-of-requires Inv-loop μ-loop
@@ -45,7 +46,8 @@ loop-less c = search needs
 bucket-is : (c : tie.After-bucket-of Inv-loop μ-loop)
     → let a = c .before .before .before .before .before .before .args in
     c .bucket-of .result
-    ≡ bucketOf (tableWith (a .class) (a .order) (a .table .now) (a .symbols .now) (a .strings .now) (a .layout) (a .count)) (c .before .before .loop .i)
+    ≡ bucketOf (tableWith (a .class) (a .order) (a .table .now) (a .symbols .now) (a .strings .now) (a .layout) (a .count))
+    (c .before .before .loop .i)
 unfolding hashOf hashIn
 bucket-is c = c .bucket-of .ensures .0
 
@@ -54,19 +56,23 @@ loop-again c =
     let at-loop = c .before .before .before .before .before in
     let start = at-loop .before .before .before .before in
     let a = start .args in
-    passing-next (tableWith (a .class) (a .order) (a .table .now) (a .symbols .now) (a .strings .now) (a .layout) (a .count)) (start .pre .0)
+    passing-next (tableWith (a .class) (a .order) (a .table .now) (a .symbols .now) (a .strings .now) (a .layout)
+    (a .count)) (start .pre .0)
     (at-loop .loop .best) (at-loop .loop .start) (at-loop .loop .last) (at-loop .loop .i) (at-loop .loop .inv)
     (c .before .before .before .before .loop-test .taken)
     (c .before .before .before .bucket-of .result) (c .before .before .run-start .result) (c .lower-wrong .result)
-    (bucket-is (c .before .before .before)) (c .before .before .run-start .ensures) (rw (← (c .before .bucket-value .ensures)) (c .lower-wrong .ensures))
+    (bucket-is (c .before .before .before)) (c .before .before .run-start .ensures)
+    (rw (← (c .before .bucket-value .ensures)) (c .lower-wrong .ensures))
 
 returns : tie.Need-returns Inv-loop μ-loop
 returns c =
     let at-loop = c .before in
     let start = at-loop .before .before .before .before in
     let a = start .args in
-    passing-end (tableWith (a .class) (a .order) (a .table .now) (a .symbols .now) (a .strings .now) (a .layout) (a .count)) (start .pre .0)
-    (at-loop .loop .best) (at-loop .loop .start) (at-loop .loop .last) (at-loop .loop .i) (at-loop .loop .inv) (c .loop-test .left)
+    passing-end (tableWith (a .class) (a .order) (a .table .now) (a .symbols .now) (a .strings .now) (a .layout)
+    (a .count)) (start .pre .0)
+    (at-loop .loop .best) (at-loop .loop .start) (at-loop .loop .last) (at-loop .loop .i) (at-loop .loop .inv)
+    (c .loop-test .left)
 
 pub least-misplaced-spec : {M : Type 1} → statement M
 least-misplaced-spec =

@@ -1,5 +1,5 @@
--- `gnu_check::runs::lowest_stray` meets its contract. The invariant: the first from here on is the first of all. The measure is what is left
--- of the buckets. Assumes nothing.
+-- `gnu_check::runs::lowest_stray` meets its contract. The invariant: the first from here on is the first of all. The
+-- measure is what is left of the buckets. Assumes nothing.
 use Prim.Native.Nat.{_-_}
 use mathlib.Core.Path.{sym, _∙_}
 use native.Mathlib.Omega.{arith}
@@ -26,7 +26,8 @@ is-stray-requires c κs = let start = c .before .before .before .before .before 
 returns : tie.Need-returns Inv-loop μ-loop
 returns c =
     let at-loop = c .before .before .before .before in
-    searching-here _ _ _ (at-loop .loop .b) (at-loop .loop .inv) (c .before .before .if1 .taken) (sym (c .before .is-stray .ensures) ∙ c .if2 .taken)
+    searching-here _ _ _ (at-loop .loop .b) (at-loop .loop .inv) (c .before .before .if1 .taken)
+    (sym (c .before .is-stray .ensures) ∙ c .if2 .taken)
 
 add-b : tie.Need-add-b Inv-loop μ-loop
 add-b c = search needs
@@ -37,7 +38,8 @@ loop-less c = search needs
 loop-again : tie.Need-loop-again Inv-loop μ-loop
 loop-again c =
     let at-loop = c .before .before .before .before in
-    searching-next _ _ _ (at-loop .loop .b) (at-loop .loop .inv) (c .before .before .if1 .taken) (sym (c .before .is-stray .ensures) ∙ c .if2 .left)
+    searching-next _ _ _ (at-loop .loop .b) (at-loop .loop .inv) (c .before .before .if1 .taken)
+    (sym (c .before .is-stray .ensures) ∙ c .if2 .left)
 
 returns-2 : tie.Need-returns-2 Inv-loop μ-loop
 returns-2 c = searching-end _ _ _ (c .before .before .loop .b) (c .before .before .loop .inv) (c .if1 .left)

@@ -16,7 +16,9 @@ use Rattle.gnu_check.proofs.runs.lowest_wrong_bucket.Tie as tie
 
 -- the table of the arguments
 abbrev table-of : tie.Start → Table
-table-of c = let a = c .args in tableWith (a .class) (a .order) (a .table .now) (a .symbols .now) (a .strings .now) (a .layout) (a .count)
+table-of c =
+    let a = c .args in
+    tableWith (a .class) (a .order) (a .table .now) (a .symbols .now) (a .strings .now) (a .layout) (a .count)
 
 lowest-stray-requires : tie.Need-lowest-stray-requires
 lowest-stray-requires c κs = search needs
@@ -35,7 +37,8 @@ returns c =
     let n = t .bucketCount in
     let strays : c .before .before .lowest-stray .result ≡ Option·getD (firstOf (stray t) (from 0 n)) n =
     c .before .before .lowest-stray .ensures ∙ rw (sub-zero n) in
-    let low : Option·getD (firstOf (stray t) (from 0 n)) n ≤ n = rw (sub-zero n) at (first-le (stray t) 0 n (omega arith)) in
+    let low : Option·getD (firstOf (stray t) (from 0 n)) n ≤ n = rw (sub-zero n) at (first-le (stray t) 0 n
+    (omega arith)) in
     c .smaller .ensures ∙ rw (strays, c .before .least-misplaced .ensures)
     (lesser-both n (firstOf (stray t) (from 0 n)) (leastMisplaced t (t .base) (t .count - t .base)) low
     (least-bound t (start .pre .0) (t .base) (t .count - t .base)))

@@ -1,5 +1,5 @@
--- `gnu_check::values::lowest_wrong_value` meets its contract. The invariant: the first from here on is the first of all. The measure is what is left
--- of the symbols. Assumes nothing.
+-- `gnu_check::values::lowest_wrong_value` meets its contract. The invariant: the first from here on is the first of all.
+-- The measure is what is left of the symbols. Assumes nothing.
 use Prim.Native.Nat.{ℕ, _-_}
 use mathlib.Core.Path.{_≡_, sym, ap, _∙_}
 use mathlib.Core.Bool.{Bool, not}
@@ -16,7 +16,8 @@ use Rattle.gnu_check.proofs.values.lowest_wrong_value.Statement.{statem
 use Rattle.gnu_check.proofs.values.lowest_wrong_value.Tie as tie
 
 abbrev broken : Class → Order → (table symbols strings : List ℕ) → Layout → (count : ℕ) → ℕ → Bool
-broken class order table symbols strings layout count i = not (valueIsHash (tableWith class order table symbols strings layout count) i)
+broken class order table symbols strings layout count i =
+    not (valueIsHash (tableWith class order table symbols strings layout count) i)
 
 abbrev Inv-loop : tie.InvT-loop
 Inv-loop class order table symbols strings layout count i₀ i =
@@ -35,7 +36,8 @@ value-is-right-requires c κs = c .before .loop .inv .low
 tested : (c : tie.After-value-is-right Inv-loop μ-loop)
     → let a = c .before .before .before .before .before .before .args in
     c .value-is-right .result
-    ≡ valueIsHash (tableWith (a .class) (a .order) (a .table .now) (a .symbols .now) (a .strings .now) (a .layout) (a .count)) (c .before .before .loop .i)
+    ≡ valueIsHash (tableWith (a .class) (a .order) (a .table .now) (a .symbols .now) (a .strings .now) (a .layout)
+    (a .count)) (c .before .before .loop .i)
 unfolding hashOf
 tested c = c .value-is-right .ensures
 
