@@ -11,11 +11,11 @@ use Rattle.endian.specs.declared.kinds.Order.the-variants.{Little, Big}
 use Rattle.endian.specs.Refusals.{noteShort, badNoteDescriptor, badNoteAlignment, badProperty}
 use Rattle.endian.specs.Word.{wordAt}
 use Rattle.name_hash.specs.Hash.{gnuHash, sysvHash}
-use Rattle.note.specs.declared.properties.Property.{Property}
-use Rattle.note.specs.declared.properties.PropertyStep.the-variants.{Property as Step·Property, Refused}
+use Rattle.note_properties.specs.declared.Property.{Property}
+use Rattle.note_properties.specs.declared.PropertyStep.the-variants.{Property as Step·Property, Refused}
 use Rattle.note.specs.declared.reader.Note.{Note}
 use Rattle.note.specs.Notes.{noteStep}
-use Rattle.note.specs.Properties.{propertyStep, start, to}
+use Rattle.note_properties.specs.Properties.{propertyStep, start, to}
 use Rattle.note.specs.Walk.{none, onto, ended, stopped, notesWithin, notesFrom, sectionNotes}
 use Rattle.version.specs.declared.table.Need.{Need}
 use Rattle.version.specs.Table.{storedAt, valid, entryAt, versymAt, matching}

@@ -19,13 +19,13 @@ use Rattle.note.specs.declared.reader.NoteStep.{NoteStep}
 use Rattle.note.specs.declared.reader.NoteStep.the-variants.{Note, End, Refused}
 use Rattle.note.specs.declared.reader.ReaderFor.{ReaderFor}
 use Rattle.note.specs.declared.reader.ReaderFor.the-variants.{Reader, Refused as Reader·Refused}
-use Rattle.note.specs.declared.properties.GnuProperties.{GnuProperties}
-use Rattle.note.specs.declared.properties.GnuProperties.the-variants.{Reader as Properties·Reader, NotThisKind, Refused as Properties·Refused}
-use Rattle.note.specs.declared.properties.PropertyReader.{PropertyReader}
-use Rattle.note.specs.declared.properties.PropertyStep.{PropertyStep}
-use Rattle.note.specs.declared.properties.PropertyStep.the-variants.{Property, End as Property·End, Refused as Property·Refused}
-use Rattle.note.specs.declared.properties.PropertyNumber.{PropertyNumber}
-use Rattle.note.specs.declared.properties.PropertyNumber.the-variants.{Number, Refused as Number·Refused}
+use Rattle.note_properties.specs.declared.GnuProperties.{GnuProperties}
+use Rattle.note_properties.specs.declared.GnuProperties.the-variants.{Reader as Properties·Reader, NotThisKind, Refused as Properties·Refused}
+use Rattle.note_properties.specs.declared.PropertyReader.{PropertyReader}
+use Rattle.note_properties.specs.declared.PropertyStep.{PropertyStep}
+use Rattle.note_properties.specs.declared.PropertyStep.the-variants.{Property, End as Property·End, Refused as Property·Refused}
+use Rattle.note_properties.specs.declared.PropertyNumber.{PropertyNumber}
+use Rattle.note_properties.specs.declared.PropertyNumber.the-variants.{Number, Refused as Number·Refused}
 use Rattle.note.specs.Notes.{readerFor, to, noteStep}
 use Rattle.note.specs.Trim.{trimmedLength}
 use Rattle.export.specs.Answers.{number, noNumber}

@@ -3,14 +3,14 @@
 --     entry, facts                                   a symbol with these fields, and what they say
 -- Assumes nothing.
 use Prim.Native.Nat.{ℕ}
-use Rattle.symbol.specs.declared.entry.Symbol.{Symbol}
-use Rattle.symbol.specs.declared.entry.Definition.{Definition}
-use Rattle.symbol.specs.declared.entry.Definition.the-variants.{Is, Refused as Definition·Refused}
+use Rattle.symbol_entry.specs.declared.Symbol.{Symbol}
+use Rattle.symbol_entry.specs.declared.Definition.{Definition}
+use Rattle.symbol_entry.specs.declared.Definition.the-variants.{Is, Refused as Definition·Refused}
 use Rattle.symbol.specs.declared.table.SymbolCount.{SymbolCount}
 use Rattle.symbol.specs.declared.table.SymbolCount.the-variants.{Symbols, Refused as Count·Refused}
 use Rattle.symbol.specs.declared.table.SymbolAt.{SymbolAt}
 use Rattle.symbol.specs.declared.table.SymbolAt.the-variants.{At, Refused}
-use Rattle.symbol.specs.Entry.{bindOf, typeOf, visibilityOf, isUndefined, isCommon, isAbsolute, isLocal, isWeak}
+use Rattle.symbol_entry.specs.Entry.{bindOf, typeOf, visibilityOf, isUndefined, isCommon, isAbsolute, isLocal, isWeak}
 use Rattle.export.specs.declared.answers.NumberAnswer.{NumberAnswer}
 use Rattle.export.specs.Answers.{number, noNumber, truth}
 use Rattle.export_symbols.specs.declared.SymbolAnswer.{SymbolAnswer}

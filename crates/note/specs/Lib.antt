@@ -1,4 +1,3 @@
 pub mod Notes
-pub mod Properties
 pub mod Trim
 pub mod Walk

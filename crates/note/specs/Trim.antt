@@ -4,16 +4,14 @@
 --     Part, partOf     a lent part: where it starts in memory, and its bytes
 --     trimmedPart      the trimmed front part of a lent name: it starts where the name does
 --     Unpadded         a front part of so many bytes does not end in zero
---     gnu, isGnu       the bytes of `GNU`, and whether the trimmed name is that
 -- Assumes nothing.
 use Prim.Native.Nat.{ℕ, suc, _-_, _<_, _≤_}
 use mathlib.Core.Path.{_≡_}
-use mathlib.Core.Bool.{Bool, cond}
+use mathlib.Core.Bool.{cond}
 use mathlib.Core.List.{List, [], _∷_}
 use denote.Ref.{RefT, ptr, now}
 use lib.Dec.{eqb}
 use lib.ListN.{length, take, getD}
-use Rattle.strings.specs.Strings.{same}
 
 unfoldable pub trimmedLength : List ℕ → ℕ
 trimmedLength [] = 0
@@ -34,9 +32,3 @@ trimmedPart name = record { from = ptr name; bytes = trimmedOf (now name) }
 
 abbrev pub Unpadded : List ℕ → ℕ → Type 0
 Unpadded name n = (n ≤ length name) × (0 < n → getD name (n - 1) 0 ≡ 0 → ⊥)
-
-abbrev pub gnu : List ℕ
-gnu = 71 ∷ 78 ∷ 85 ∷ []
-
-unfoldable pub isGnu : List ℕ → Bool
-isGnu name = same (trimmedOf name) gnu

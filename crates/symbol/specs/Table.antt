@@ -18,7 +18,7 @@ use Rattle.endian.specs.Word.{Field, fieldAt}
 use Rattle.strings.specs.Strings.{stringAt}
 use Rattle.strings.specs.declared.StringAt.{StringAt}
 use Rattle.strings.specs.declared.StringAt.the-variants.{Refused as String·Refused}
-use Rattle.symbol.specs.declared.entry.Symbol.{Symbol}
+use Rattle.symbol_entry.specs.declared.Symbol.{Symbol}
 use Rattle.symbol.specs.declared.table.SymbolIndex.{SymbolIndex}
 use Rattle.symbol.specs.declared.table.SymbolCount.{SymbolCount}
 use Rattle.symbol.specs.declared.table.SymbolCount.the-variants.{Symbols, Refused as Count·Refused}

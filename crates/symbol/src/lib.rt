@@ -1,4 +1,2 @@
-// The symbols of a symbol table: an entry with its fields and what they say, and the table that
-// lends entries by number.
-pub mod entry;
+// ELF symbols: the record of a number, and its name.
 pub mod table;

@@ -1,5 +1,4 @@
 // A table of symbols: how many it has, the one of a number, and its name.
-use super::entry::Symbol;
 use endian::kinds::Class;
 use endian::kinds::Order;
 use endian::refusals::LIMIT;
@@ -11,6 +10,7 @@ use endian::words::u16_at;
 use endian::words::u32_at;
 use endian::words::u64_at;
 use strings::StringAt;
+use symbol_entry::Symbol;
 ghost use mathlib.Core.Path.{_≡_};
 ghost use Prim.Native.Nat.{_<_};
 ghost use Rattle.symbol.specs.Table.{symbolSize, symbolOf, symbolCount, symbolAt, symbolName};

@@ -1,7 +1,9 @@
 -- `symbol::table::symbol_at` meets its contract. Each answer is the one that its tests pick. Assumes nothing.
+use mathlib.Core.Path.{ap}
 use native.Mathlib.Omega.{arith}
 use borrow.Author.Needs.{needs}
 use borrow.Author.Tests.{lt-ltb, le-ltb, eq-eqb, ne-eqb, le-leb, lt-leb}
+use Rattle.symbol.specs.declared.table.SymbolAt.the-variants.{At}
 use Rattle.symbol.specs.Table.{symbolAt}
 use Rattle.symbol.proofs.Size.{end-fits}
 use Rattle.symbol.proofs.table.symbol_at.Statement.{statement}
@@ -47,7 +49,8 @@ unfolding symbolAt
 returns-4 c =
     let whole = rw (c .before .before .symbol-size .ensures) at (c .before .if3 .left) in
     let tested = c .before .before .before .before in
-    simp (le-ltb _ _ (tested .before .before .if1 .left), ne-eqb _ _ (tested .if2 .left), le-leb _ _ whole) (cc)
+    let read = rw (c .before .before .symbol-size .ensures) at (c .symbol-of .ensures) in
+    simp (le-ltb _ _ (tested .before .before .if1 .left), ne-eqb _ _ (tested .if2 .left), le-leb _ _ whole) (ap At read)
 
 pub symbol-at-spec : {M : Type 1} → statement M
 symbol-at-spec =
