@@ -269,9 +269,9 @@ fn dynamic(run: &mut Run, class: Class, order: Order, bytes: &[u8], segment: Seg
     }
 }
 
-/// The bytes of an address range.
+/// The bytes of an address range, in any class and order.
 fn range(run: &mut Run, fields: &SegmentFields, file: &[u8], address: u64, length: u64) {
-    let (class, order) = (Class::Elf64, Order::Little);
+    let (class, order) = run.random.of(&KINDS);
     let bytes = encoded(class, order, fields);
     let segment = fetulombo::segment_at(class, order, &bytes, 0).unwrap();
     let place = segment.data_range_place(file, address, length);
@@ -279,7 +279,7 @@ fn range(run: &mut Run, fields: &SegmentFields, file: &[u8], address: u64, lengt
         "segment_data_range",
         place.map(|found| found.map(pair)).map_err(number),
         within(file, || {
-            oracle::segment_data_range(true, false, &bytes, file, address, length)
+            oracle::segment_data_range(is64(class), big(order), &bytes, file, address, length)
         }),
         |found| match found {
             Some((_, 0)) => "empty",

@@ -22,18 +22,18 @@ use Rattle.segment.specs.declared.table.SegmentCount.{SegmentCount}
 use Rattle.segment.specs.declared.table.SegmentCount.the-variants.{Segments, Refused as Count·Refused}
 use Rattle.segment.specs.declared.table.SegmentAt.{SegmentAt}
 use Rattle.segment.specs.declared.table.SegmentAt.the-variants.{At, Refused}
-use Rattle.segment.specs.declared.part.SegmentData.{SegmentData}
-use Rattle.segment.specs.declared.part.SegmentData.the-variants.{At as Data·At, Refused as Data·Refused}
-use Rattle.segment.specs.declared.part.SegmentDataRange.{SegmentDataRange}
-use Rattle.segment.specs.declared.part.SegmentDataRange.the-variants.{At as Range·At, NotHere, Refused as Range·Refused}
-use Rattle.segment.specs.declared.dynamic.SegmentDynamic.{SegmentDynamic}
-use Rattle.segment.specs.declared.dynamic.SegmentDynamic.the-variants.{At as Dynamic·At, NotThisKind as Dynamic·NotThisKind, Refused as Dynamic·Refused}
-use Rattle.segment.specs.declared.dynamic.DynamicEntryAt.{DynamicEntryAt}
-use Rattle.segment.specs.declared.dynamic.DynamicEntryAt.the-variants.{At as Entry·At, NoEntry, Refused as Entry·Refused}
-use Rattle.segment.specs.declared.interpreter.SegmentInterpreter.{SegmentInterpreter}
-use Rattle.segment.specs.declared.interpreter.SegmentInterpreter.the-variants.{At as Interpreter·At, NotThisKind as Interpreter·NotThisKind, Refused as Interpreter·Refused}
-use Rattle.segment.specs.declared.notes.SegmentNotes.{SegmentNotes}
-use Rattle.segment.specs.declared.notes.SegmentNotes.the-variants.{At as Notes·At, NotThisKind as Notes·NotThisKind, Refused as Notes·Refused}
+use Rattle.segment_parts.specs.declared.part.SegmentData.{SegmentData}
+use Rattle.segment_parts.specs.declared.part.SegmentData.the-variants.{At as Data·At, Refused as Data·Refused}
+use Rattle.segment_parts.specs.declared.part.SegmentDataRange.{SegmentDataRange}
+use Rattle.segment_parts.specs.declared.part.SegmentDataRange.the-variants.{At as Range·At, NotHere, Refused as Range·Refused}
+use Rattle.segment_parts.specs.declared.dynamic.SegmentDynamic.{SegmentDynamic}
+use Rattle.segment_parts.specs.declared.dynamic.SegmentDynamic.the-variants.{At as Dynamic·At, NotThisKind as Dynamic·NotThisKind, Refused as Dynamic·Refused}
+use Rattle.segment_parts.specs.declared.dynamic.DynamicEntryAt.{DynamicEntryAt}
+use Rattle.segment_parts.specs.declared.dynamic.DynamicEntryAt.the-variants.{At as Entry·At, NoEntry, Refused as Entry·Refused}
+use Rattle.segment_parts.specs.declared.interpreter.SegmentInterpreter.{SegmentInterpreter}
+use Rattle.segment_parts.specs.declared.interpreter.SegmentInterpreter.the-variants.{At as Interpreter·At, NotThisKind as Interpreter·NotThisKind, Refused as Interpreter·Refused}
+use Rattle.segment_parts.specs.declared.notes.SegmentNotes.{SegmentNotes}
+use Rattle.segment_parts.specs.declared.notes.SegmentNotes.the-variants.{At as Notes·At, NotThisKind as Notes·NotThisKind, Refused as Notes·Refused}
 use Rattle.export.specs.Answers.{number, noNumber, truth}
 use Rattle.export.specs.declared.answers.NumberAnswer.{NumberAnswer}
 use Rattle.export.specs.declared.answers.PlaceAnswer.{PlaceAnswer}

@@ -7,23 +7,23 @@ use export::answers::number_answer;
 use export::kinds::class_of;
 use export::kinds::order_of;
 use note::reader::Align;
-use segment::dynamic::DynamicEntryAt;
-use segment::dynamic::SegmentDynamic;
 use segment::entry::Segment;
 use segment::entry::SegmentKind;
-use segment::interpreter::SegmentInterpreter;
-use segment::notes::SegmentNotes;
-use segment::part::SegmentData;
-use segment::part::SegmentDataRange;
 use segment::table::SegmentAt;
 use segment::table::SegmentCount;
+use segment_parts::dynamic::DynamicEntryAt;
+use segment_parts::dynamic::SegmentDynamic;
+use segment_parts::interpreter::SegmentInterpreter;
+use segment_parts::notes::SegmentNotes;
+use segment_parts::part::SegmentData;
+use segment_parts::part::SegmentDataRange;
 ghost use mathlib.Core.Path.{_≡_};
 ghost use Rattle.endian.specs.declared.kinds.Order.the-variants.{Little};
 ghost use Rattle.note.specs.Notes.{alignSize};
-ghost use Rattle.segment.specs.Dynamic.{segmentDynamic, dynamicEntry};
-ghost use Rattle.segment.specs.Interpreter.{segmentInterpreter};
-ghost use Rattle.segment.specs.Part.{segmentData, segmentDataRange};
-ghost use Rattle.segment.specs.SegmentNotes.{segmentNotes};
+ghost use Rattle.segment_parts.specs.Dynamic.{segmentDynamic, dynamicEntry};
+ghost use Rattle.segment_parts.specs.Interpreter.{segmentInterpreter};
+ghost use Rattle.segment_parts.specs.Part.{segmentData, segmentDataRange};
+ghost use Rattle.segment_parts.specs.SegmentNotes.{segmentNotes};
 ghost use Rattle.segment.specs.Table.{segmentCount, segmentAt};
 ghost use Rattle.export.specs.Answers.{classOf, orderOf};
 ghost use Rattle.export_segments.specs.Answers.{entry, countAnswer, segmentAnswer, kindNumber, facts, dataAnswer, noPart, part, rangeAnswer, interpreterAnswer, dynamicAnswer, notesAnswer, entryAnswer};
@@ -177,7 +177,7 @@ pub extern "C" fn fetulombo_segment_facts(kind: u32, flags: u32) -> SegmentFacts
 pub extern "C" fn fetulombo_segment_data(file: &[u8], offset: u64, filesz: u64) -> PlaceAnswer
     ensures { λ r. ⌜ r ≡ dataAnswer (segmentData (now (file .entry)) (entry 0 0 offset 0 filesz 0)) ⌝ }
 {
-    match segment::part::segment_data(file, entry_of(0, 0, offset, 0, filesz, 0)) {
+    match segment_parts::part::segment_data(file, entry_of(0, 0, offset, 0, filesz, 0)) {
         SegmentData::At { start, len } => PlaceAnswer {
             refusal: 0,
             start: start as u64,
@@ -228,7 +228,7 @@ pub extern "C" fn fetulombo_segment_data_range(
     ensures { λ r. ⌜ r ≡ rangeAnswer (segmentDataRange (now (file .entry)) (entry 0 0 offset vaddr filesz 0) address size) ⌝ }
 {
     let segment = entry_of(0, 0, offset, vaddr, filesz, 0);
-    match segment::part::segment_data_range(file, segment, address, size) {
+    match segment_parts::part::segment_data_range(file, segment, address, size) {
         SegmentDataRange::At { start, len } => part_answer(start, len, 0),
         SegmentDataRange::NotHere => no_part(0),
         SegmentDataRange::Refused(refusal) => no_part(refusal.0),
@@ -247,7 +247,7 @@ pub extern "C" fn fetulombo_segment_dynamic(
     ensures { λ r. ⌜ r ≡ dynamicAnswer (segmentDynamic (classOf class) (now (file .entry)) (entry kind 0 offset 0 filesz 0)) ⌝ }
 {
     let segment = entry_of(kind, 0, offset, 0, filesz, 0);
-    match segment::dynamic::segment_dynamic(class_of(class), file, segment) {
+    match segment_parts::dynamic::segment_dynamic(class_of(class), file, segment) {
         SegmentDynamic::At { start, len, count } => part_answer(start, len, count as u64),
         SegmentDynamic::NotThisKind => no_part(0),
         SegmentDynamic::Refused(refusal) => no_part(refusal.0),
@@ -264,7 +264,7 @@ pub extern "C" fn fetulombo_segment_dynamic_entry(
 ) -> DynamicAnswer
     ensures { λ r. ⌜ r ≡ entryAnswer (dynamicEntry (classOf class) (orderOf order) (now (bytes .entry)) number) ⌝ }
 {
-    match segment::dynamic::dynamic_entry(class_of(class), order_of(order), bytes, number) {
+    match segment_parts::dynamic::dynamic_entry(class_of(class), order_of(order), bytes, number) {
         DynamicEntryAt::At(entry) => DynamicAnswer {
             refusal: 0,
             found: 1,
@@ -297,7 +297,7 @@ pub extern "C" fn fetulombo_segment_interpreter(
     ensures { λ r. ⌜ r ≡ interpreterAnswer (segmentInterpreter (now (file .entry)) (entry kind 0 offset 0 filesz 0)) ⌝ }
 {
     let segment = entry_of(kind, 0, offset, 0, filesz, 0);
-    match segment::interpreter::segment_interpreter(file, segment) {
+    match segment_parts::interpreter::segment_interpreter(file, segment) {
         SegmentInterpreter::At { start, len } => part_answer(start, len, 0),
         SegmentInterpreter::NotThisKind => no_part(0),
         SegmentInterpreter::Refused(refusal) => no_part(refusal.0),
@@ -326,7 +326,7 @@ pub extern "C" fn fetulombo_segment_notes(
     ensures { λ r. ⌜ r ≡ notesAnswer (segmentNotes Little (now (file .entry)) (entry kind 0 offset 0 filesz align)) ⌝ }
 {
     let segment = entry_of(kind, 0, offset, 0, filesz, align);
-    match segment::notes::segment_notes(Order::Little, file, segment) {
+    match segment_parts::notes::segment_notes(Order::Little, file, segment) {
         SegmentNotes::At { reader, start, len } => {
             let align = reader.align;
             part_answer(start, len, align_number(align))

@@ -1,4 +1,2 @@
--- `Inside`: bytes in the file, by tests that cannot wrap. `Records`: the ends of records. `Zero`: the bytes up to their first zero.
-mod Inside
+-- `Records`: the ends of records, and their count.
 pub mod Records
-mod Zero

@@ -1,21 +1,15 @@
--- The ends of records in a table, of either class. Assumes nothing.
---     segment-end-fits, dynamic-end-fits      the end of a record of a 32-bit number fits 64 bits
---     whole-count, count-whole                a whole segment stands at a number exactly if it is below the count
---     entry-count, count-entry                the same of a dynamic entry
+-- The records of either class. Assumes nothing.
+--     end-fits                    the end of a record of a 32-bit number fits 64 bits
+--     whole-count, count-whole    a whole record stands at a number exactly if it is below the count
 use Prim.Native.Nat.{ℕ, _+_, _*_, _/_, _^_, _<_, _≤_}
 use native.Mathlib.Omega.{arith}
 use Rattle.endian.specs.declared.kinds.Class.{Class}
 use Rattle.endian.specs.declared.kinds.Class.the-variants.{Elf32, Elf64}
 use Rattle.segment.specs.Table.{segmentSize}
-use Rattle.segment.specs.Dynamic.{dynamicSize}
 
-pub segment-end-fits : (class : Class) (n : ℕ) → n < 2 ^ 32 → (n + 1) * segmentSize class < 2 ^ 64
-segment-end-fits Elf32 n h = omega arith
-segment-end-fits Elf64 n h = omega arith
-
-pub dynamic-end-fits : (class : Class) (n : ℕ) → n < 2 ^ 32 → (n + 1) * dynamicSize class < 2 ^ 64
-dynamic-end-fits Elf32 n h = omega arith
-dynamic-end-fits Elf64 n h = omega arith
+pub end-fits : (class : Class) (n : ℕ) → n < 2 ^ 32 → (n + 1) * segmentSize class < 2 ^ 64
+end-fits Elf32 n h = omega arith
+end-fits Elf64 n h = omega arith
 
 pub whole-count : (class : Class) (n len : ℕ) → (n + 1) * segmentSize class ≤ len → n < len / segmentSize class
 whole-count Elf32 n len h = omega arith
@@ -24,11 +18,3 @@ whole-count Elf64 n len h = omega arith
 pub count-whole : (class : Class) (n len : ℕ) → n < len / segmentSize class → (n + 1) * segmentSize class ≤ len
 count-whole Elf32 n len h = omega arith
 count-whole Elf64 n len h = omega arith
-
-pub entry-count : (class : Class) (n len : ℕ) → (n + 1) * dynamicSize class ≤ len → n < len / dynamicSize class
-entry-count Elf32 n len h = omega arith
-entry-count Elf64 n len h = omega arith
-
-pub count-entry : (class : Class) (n len : ℕ) → n < len / dynamicSize class → (n + 1) * dynamicSize class ≤ len
-count-entry Elf32 n len h = omega arith
-count-entry Elf64 n len h = omega arith

@@ -2,29 +2,29 @@
 // (docs/COMPARISON.md). Prints how many there were and how many answers differ.
 use endian::kinds::Class;
 use endian::kinds::Order;
-use endian::words::u8_at;
 use endian::words::u32_at;
 use endian::words::u64_at;
+use endian::words::u8_at;
 use export::kinds::class_of;
 use export::kinds::order_of;
 use libc::STDIN_FILENO;
 use libc::STDOUT_FILENO;
 use note::reader::Align;
-use segment::dynamic::DynamicEntryAt;
-use segment::dynamic::SegmentDynamic;
-use segment::dynamic::dynamic_entry;
-use segment::dynamic::segment_dynamic;
 use segment::entry::Segment;
-use segment::interpreter::SegmentInterpreter;
-use segment::interpreter::segment_interpreter;
-use segment::notes::SegmentNotes;
-use segment::notes::segment_notes;
-use segment::part::SegmentData;
-use segment::part::SegmentDataRange;
-use segment::part::segment_data;
-use segment::part::segment_data_range;
 use segment::table::SegmentAt;
 use segment::table::segment_at;
+use segment_parts::dynamic::DynamicEntryAt;
+use segment_parts::dynamic::SegmentDynamic;
+use segment_parts::dynamic::dynamic_entry;
+use segment_parts::dynamic::segment_dynamic;
+use segment_parts::interpreter::SegmentInterpreter;
+use segment_parts::interpreter::segment_interpreter;
+use segment_parts::notes::SegmentNotes;
+use segment_parts::notes::segment_notes;
+use segment_parts::part::SegmentData;
+use segment_parts::part::SegmentDataRange;
+use segment_parts::part::segment_data;
+use segment_parts::part::segment_data_range;
 
 const RECORD: usize = 320;
 

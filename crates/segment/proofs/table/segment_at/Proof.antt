@@ -2,7 +2,7 @@
 use native.Mathlib.Omega.{arith}
 use borrow.Author.Tests.{lt-ltb, le-ltb, le-leb, lt-leb}
 use Rattle.segment.specs.Table.{segmentAt}
-use Rattle.segment.proofs.Records.{segment-end-fits}
+use Rattle.segment.proofs.Records.{end-fits}
 use borrow.Author.Needs.{needs}
 use Rattle.segment.proofs.table.segment_at.Statement.{statement}
 use Rattle.segment.proofs.table.segment_at.Tie as tie
@@ -20,7 +20,7 @@ add-if2 c = search needs
 mul-if2 : tie.Need-mul-if2
 mul-if2 c =
     let args = c .before .before .before .args in
-    rw (c .segment-size .ensures) (record { fits = segment-end-fits (args .class) (args .number) (omega arith) })
+    rw (c .segment-size .ensures) (record { fits = end-fits (args .class) (args .number) (omega arith) })
 
 returns-2 : tie.Need-returns-2
 unfolding segmentAt

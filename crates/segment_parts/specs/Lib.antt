@@ -1,0 +1,4 @@
+pub mod Dynamic
+pub mod Interpreter
+pub mod Part
+pub mod SegmentNotes
