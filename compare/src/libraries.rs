@@ -4,7 +4,8 @@ use fetulombo::{Class, Order};
 use std::path::{Path, PathBuf};
 
 /// Folders that are looked into; COMPARE_LIBRARIES names others, separated by colons.
-const FOLDERS: &str = "/lib/x86_64-linux-gnu:/usr/lib/x86_64-linux-gnu:/lib64:/usr/lib64:/usr/lib";
+const FOLDERS: &str = "/lib/x86_64-linux-gnu:/usr/lib/x86_64-linux-gnu:/lib64:/usr/lib64:/usr/lib:\
+    /usr/i686-linux-gnu/lib:/usr/s390x-linux-gnu/lib:/usr/powerpc-linux-gnu/lib";
 
 /// Folders of programs, which name an interpreter as most libraries do not; COMPARE_PROGRAMS names others.
 const PROGRAMS: &str = "/bin:/usr/bin:/usr/sbin";
