@@ -250,7 +250,7 @@ pub fn original(
 }
 
 /// The shift of a table that has a header.
-fn shift(order: Order, table: &[u8]) -> u32 {
+pub fn shift(order: Order, table: &[u8]) -> u32 {
     let bytes = table[12..16].try_into().expect("4 bytes");
     match order {
         Order::Little => u32::from_le_bytes(bytes),

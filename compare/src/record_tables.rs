@@ -3,17 +3,20 @@
 //! shift above 31 and the verdicts, which it does not have, are those of `plain`.
 
 use crate::inputs::{KINDS, Random, big, is64};
-use crate::lookups::{Asked, Kind, ask, original, rehashed, their_versions};
-use crate::plain::{Found, Verdict};
+use crate::lookups::{Asked, Kind, ask, original, rehashed, shift, their_versions};
+use crate::plain::{Found, Verdict, gnu_hash};
 use crate::record::padded;
+use crate::symbols::size;
 use crate::tables::{GnuShape, Symbols, damaged_words, gnu_table, made_up, sysv_table};
-use crate::versions::Parts;
+use crate::versions::{Parts, put};
 use std::collections::BTreeMap;
 
-/// How many records a list has of each answer, of each refusal and of each broken rule.
+/// How many records a list has of each answer, of each refusal, of each broken rule, and of each
+/// broken rule about whole chains.
 const OF_AN_ANSWER: usize = 150;
 const OF_A_REFUSAL: usize = 50;
-const OF_A_BROKEN_RULE: usize = 60;
+const OF_A_RULE: usize = 50;
+const OF_A_CHAIN_RULE: usize = 150;
 
 /// What an answer is counted as, with the table's kind.
 type Label = (Kind, String);
@@ -43,8 +46,9 @@ fn collected(
     list
 }
 
-/// A table over some symbols, well made or damaged; of some the symbols do not stand in its order.
-fn table(random: &mut Random, kind: Kind) -> (Symbols, Vec<u8>) {
+/// A table over some symbols, well made or damaged, and the name of the last of them; of some tables
+/// the symbols do not stand in their order.
+fn table(random: &mut Random, kind: Kind) -> (Symbols, Vec<u8>, Vec<u8>) {
     let (class, order) = random.of(&KINDS);
     let shape = GnuShape::random(random);
     let sorted_for = match random.below(6) {
@@ -59,13 +63,46 @@ fn table(random: &mut Random, kind: Kind) -> (Symbols, Vec<u8>) {
         Kind::Gnu => gnu_table(&made, shape),
         Kind::Sysv => sysv_table(&made, shape.buckets as usize),
     };
+    let plain = made.plain(&table);
+    let last = plain.name(plain.count().saturating_sub(1)).unwrap_or(b"");
+    let last = last.to_vec();
+    let table = match random.below(8) {
+        0 | 1 => table,
+        2 | 3 => pointed(random, &made, &table),
+        4 | 5 => frayed(random, &mut made, table),
+        _ => damaged_words(random, order, &table),
+    };
+    (made, table, last)
+}
+
+/// A copy in which a word after the counts is a number around that of the symbols.
+fn pointed(random: &mut Random, made: &Symbols, table: &[u8]) -> Vec<u8> {
+    let number = (made.plain(table).count() + random.below(3)).saturating_sub(1);
+    let mut word = Vec::new();
+    put(made.order, &mut word, number as u32, 4);
+    let at = (2 + random.below(table.len() / 4 - 2)) * 4;
+    let mut pointed = table.to_vec();
+    pointed[at..at + 4].copy_from_slice(&word);
+    pointed
+}
+
+/// The last symbols or the last words left out, or more words than there should be.
+fn frayed(random: &mut Random, made: &mut Symbols, mut table: Vec<u8>) -> Vec<u8> {
     match random.below(3) {
-        0 => (made, table),
+        0 => {
+            let left_out = (1 + random.below(2)) * size(made.class);
+            let left = made.symbols.len().saturating_sub(left_out);
+            made.symbols.truncate(left);
+        }
+        1 => table.truncate(table.len() - (1 + random.below(3)) * 4),
         _ => {
-            let damaged = damaged_words(random, order, &table);
-            (made, damaged)
+            table = pointed(random, made, &table);
+            for _ in 0..2 {
+                put(made.order, &mut table, random.below(5) as u32, 4);
+            }
         }
     }
+    table
 }
 
 /// The first three bytes of a record: `g` or `s`, class, order.
@@ -97,7 +134,7 @@ pub fn lookups(random: &mut Random) -> Vec<u8> {
             most.push((kind, label, OF_AN_ANSWER));
         }
     }
-    for label in ["26", "27", "28", "30"] {
+    for label in ["none, shift above 31", "26", "27", "28", "30"] {
         most.push((Kind::Gnu, label, OF_A_REFUSAL));
     }
     for label in ["23", "24", "25"] {
@@ -112,11 +149,15 @@ pub fn lookups(random: &mut Random) -> Vec<u8> {
 /// refusal in 1, whether a symbol is found in 1, the symbol in 4, probes in 4; the length's refusal
 /// in 1, whether there is a length in 1, the length in 4; 3 unused.
 fn lookup(random: &mut Random, kind: Kind) -> (Vec<u8>, String) {
-    let (made, table) = table(random, kind);
-    let asked = match kind {
-        Kind::Gnu => ask(random),
-        Kind::Sysv => rehashed(ask(random)),
-    };
+    let (made, table, last) = table(random, kind);
+    let mut asked = ask(random);
+    if random.below(3) == 0 {
+        asked.hash = gnu_hash(&last);
+        asked.name = last;
+    }
+    if kind == Kind::Sysv {
+        asked = rehashed(asked);
+    }
     let theirs = their_versions(&made).expect("versions that can be read");
     let found = original(kind, &made, &table, &theirs, &asked);
 
@@ -130,6 +171,9 @@ fn lookup(random: &mut Random, kind: Kind) -> (Vec<u8>, String) {
     put_found(&mut record, found);
     put_length(&mut record, kind, &made, &table);
     let label = match found {
+        Ok(_) if kind == Kind::Gnu && shift(made.order, &table) > 31 => {
+            "none, shift above 31".to_string()
+        }
         Ok((Some(_), 1)) => "found at once".to_string(),
         Ok((Some(_), _)) => "found".to_string(),
         Ok((None, 0)) => "none, no probe".to_string(),
@@ -178,16 +222,22 @@ fn put_length(record: &mut Vec<u8>, kind: Kind, made: &Symbols, table: &[u8]) {
 
 pub fn checks(random: &mut Random) -> Vec<u8> {
     let mut most = Vec::new();
-    for (kind, rules, refusals) in [
+    for (kind, rules, chain_rules, refusals) in [
         (
             Kind::Gnu,
-            &["1", "2", "3", "4", "5", "6", "7", "8", "9", "10"][..],
+            &["1", "2", "3", "4", "5", "6", "7", "8"][..],
+            &["9", "10"][..],
             ["26", "27", "28"],
         ),
-        (Kind::Sysv, &["1", "2", "3"], ["23", "24", "25"]),
+        (Kind::Sysv, &["1", "2"], &["3"], ["23", "24", "25"]),
     ] {
         most.push((kind, "accepted", OF_AN_ANSWER));
-        most.extend(rules.iter().map(|&rule| (kind, rule, OF_A_BROKEN_RULE)));
+        most.extend(rules.iter().map(|&rule| (kind, rule, OF_A_RULE)));
+        most.extend(
+            chain_rules
+                .iter()
+                .map(|&rule| (kind, rule, OF_A_CHAIN_RULE)),
+        );
         most.extend(refusals.map(|refusal| (kind, refusal, OF_A_REFUSAL)));
     }
     collected(&most, |kind| check(random, kind))
@@ -197,7 +247,7 @@ pub fn checks(random: &mut Random) -> Vec<u8> {
 /// 216, strings in 89; refusal in 1, broken rule or 0 in 1, its place in 4, the longest chain in 4;
 /// 3 unused.
 fn check(random: &mut Random, kind: Kind) -> (Vec<u8>, String) {
-    let (made, table) = table(random, kind);
+    let (made, table, _) = table(random, kind);
     let verdict = match kind {
         Kind::Gnu => made.plain(&table).gnu_check(),
         Kind::Sysv => made.plain(&table).sysv_check(),
