@@ -28,6 +28,7 @@ test: calls comparison
 archive:
 	rm -rf $(OBJECTS) $(ARCHIVE)
 	mkdir -p $(OBJECTS)
+	rt check $(EXPORTS:%=export_%)
 	set -e; for e in $(EXPORTS); do \
 	  rt staticlib export_$$e; \
 	  (cd $(OBJECTS) && ar x ../staticlib/libexport_$$e.a); \
