@@ -1,5 +1,4 @@
 -- The checker's answer, step by step.
---     power-found, power-none                 whether a number is a power of two
 --     judge-header, header-broken, header-kept    the answer by G1 to G5; what a table keeps that breaks none of them
 --     from-names-6, -7, -8, -kept             the answer by G6 to G8
 --     wrong-bucket, right-buckets             what the pass over the buckets says of G9
@@ -7,16 +6,15 @@
 --     from-buckets-9, -10, -accepted          the answer by G9 and G10
 --     checkFrom, check-told                   the answer by what was read of the parts
 -- Assumes nothing.
-use Prim.Native.Nat.{ℕ, zero, suc, _+_, _-_, _*_, _/_, _%_, _^_, _≤_, _<_}
+use Prim.Native.Nat.{ℕ, zero, suc, _+_, _-_, _/_, _≤_, _<_}
 use mathlib.Core.Path.{_≡_, refl, sym, ap, _∙_}
 use mathlib.Core.Bool.{Bool, true, false, cond, not, _&&_, Bool·beq}
 use mathlib.Core.List.{List, [], _∷_, map}
 use mathlib.Core.Option.{Option, some, none, Option·getD}
-use native.Mathlib.Nat.{sub-zero, one-mul, mod-eq-of-lt}
+use native.Mathlib.Nat.{sub-zero}
 use native.Mathlib.Omega.{arith}
 use lib.Dec.{leb, ltb, eqb}
 use lib.ListN.{length}
-use lib.Pow.{pow-lt}
 use borrow.Author.Tests.{leb-true, eqb-true, eqb-false, eq-eqb, ne-eqb, lt-ltb}
 use Rattle.endian.specs.declared.kinds.Class.{Class}
 use Rattle.endian.specs.declared.kinds.Order.{Order}
@@ -24,7 +22,7 @@ use Rattle.endian.specs.declared.refusals.Refusal.{Refusal}
 use Rattle.endian.specs.Refusals.{limit, tooLong}
 use Rattle.symbol.specs.declared.table.SymbolCount.{SymbolCount}
 use Rattle.symbol.specs.Table.{symbolSize, symbolCount}
-use Rattle.lookup.specs.Pick.{from, largest, isNone}
+use Rattle.lookup.specs.Pick.{from, largest}
 use Rattle.lookup.proofs.Picking.{All, all-from, firstOf-cong, by-test, and-right, beq-eq}
 use Rattle.gnu.specs.declared.header.HeaderAt.{HeaderAt}
 use Rattle.gnu.specs.declared.header.Layout.{Layout}
@@ -35,31 +33,17 @@ use Rattle.gnu_rules.specs.declared.Checked.{Checked}
 use Rattle.gnu_rules.specs.declared.Checked.the-variants.{Accepted, Broken, Refused}
 use Rattle.gnu_rules.specs.Rules.{bucketOf, powerOfTwo, baseWithin, bloomCountPower, someBucket, shiftWithin, enoughValues, nameReadable, valueIsHash, bloomBitsSet, bucketRight, endsAtLast, whole, lowest, findings, longest, verdict, check, unlessRefused, gnuCheck}
 use Rattle.gnu_rules.proofs.Kept.{power-low, lowest-none}
-use Rattle.gnu_check.specs.Passes.{tableWith, firstFrom}
+use Rattle.gnu_rules.specs.Search.{firstFrom}
+use Rattle.gnu_check.specs.Passes.{tableWith}
 use Rattle.gnu_check.specs.Runs.{runStart, leastWrong, lastOfRun, endsRun, longestRun, chainStart, longestChain}
-use Rattle.gnu_check.specs.Verdicts.{firstBroken, brokenHeader, Sound, fromNames, fromBuckets}
+use Rattle.gnu_rules.specs.HeaderRules.{firstBroken, brokenHeader}
+use Rattle.gnu_check.specs.Verdicts.{Sound, fromNames, fromBuckets}
 use Rattle.gnu_check.proofs.Lasts.{last-of-run, longest-run}
-use Rattle.gnu_check.proofs.Searching.{first-some, first-none}
+use Rattle.gnu_rules.proofs.Searching.{first-some, first-none}
 use Rattle.gnu_check.proofs.Turns.{flip}
 use Rattle.gnu_check.proofs.Wrong.{least-wrong}
 
 -- ---- G1 to G5
-
-module _ (n : ℕ) where
-  abbrev pub isPower : ℕ → Bool
-  isPower k = eqb n (2 ^ k)
-
-  pub power-found : (k : ℕ) → k ≡ firstFrom isPower 0 32 → k < 32 → powerOfTwo n ≡ true
-  unfolding powerOfTwo
-  power-found k found low = ap (λ o. not (isNone o)) (first-some isPower 0 32 k found (omega arith) (λ e. omega arith))
-
-  pub power-none : 32 ≡ firstFrom isPower 0 32 → powerOfTwo n ≡ false
-  unfolding powerOfTwo
-  power-none found = ap (λ o. not (isNone o)) (first-none isPower 0 32 32 found (omega arith) refl)
-
--- a 1 that is shifted within 32 bits
-pub shifted : (k : ℕ) → k < 32 → 1 * 2 ^ k % 2 ^ 32 ≡ 2 ^ k
-shifted k low = rw (one-mul (2 ^ k)) (mod-eq-of-lt (pow-lt low))
 
 -- the answer after the number of a broken rule, or 0
 abbrev pub afterHeader : ℕ → Checked → Checked

@@ -7,7 +7,6 @@
 --     lastIn         the next symbol is of another bucket, or there is none
 --     readableIn     a symbol's name can be read
 --     startsBelow    of a symbol that was looked for: its name starts below a place
---     firstFrom      the first number from a on and below e that passes a test, or e
 -- Assumes nothing.
 use Prim.Native.Nat.{ℕ, suc, _+_, _-_, _*_, _%_}
 use mathlib.Core.Bool.{Bool, false, not, _&&_}
@@ -21,7 +20,7 @@ use Rattle.strings.specs.Strings.{stringAt}
 use Rattle.symbol.specs.declared.table.SymbolAt.{SymbolAt}
 use Rattle.symbol.specs.declared.table.SymbolAt.the-variants.{At, Refused}
 use Rattle.name_hash.specs.Hash.{gnuHash}
-use Rattle.lookup.specs.Pick.{from, firstOf, isNone}
+use Rattle.lookup.specs.Pick.{isNone}
 use Rattle.lookup.specs.Wanted.{nameOf, bytesOf}
 use Rattle.gnu.specs.declared.header.Layout.{Layout}
 use Rattle.gnu.specs.Layout.{wordSize}
@@ -65,6 +64,3 @@ readableIn class order symbols strings i = not (isNone (nameOf class order symbo
 abbrev pub startsBelow : ℕ → SymbolAt → Bool
 startsBelow end (At entry) = ltb (entry .name) end
 startsBelow end (Refused r) = false
-
-unfoldable pub firstFrom : (ℕ → Bool) → (a e : ℕ) → ℕ
-firstFrom p a e = Option·getD (firstOf p (from a (e - a))) e

@@ -1,31 +1,15 @@
--- The checker's answer in three steps, of a table by its layout. No public promise cites this file.
---     brokenHeader   the first broken rule of G1 to G5, or 0
---     Sound          what the passes ask of a table of which none is
+-- The checker's answer from G6 on and from G9 on. No public promise cites this file.
+--     Sound          what the passes ask of a table that keeps G1 to G5
 --     fromNames      the answer from G6 on
 --     fromBuckets    the answer from G9 on
 -- Assumes nothing.
-use Prim.Native.Nat.{ℕ, _-_, _≤_}
-use mathlib.Core.Bool.{Bool, cond, _&&_}
+use Prim.Native.Nat.{ℕ, _≤_}
 use mathlib.Core.List.{[], _∷_}
-use lib.Dec.{leb}
 use Rattle.lookup.specs.Pick.{from}
 use Rattle.gnu.specs.declared.header.Layout.{Layout}
 use Rattle.gnu.specs.Table.{Table, hashed}
 use Rattle.gnu_rules.specs.declared.Checked.{Checked}
-use Rattle.gnu_rules.specs.Rules.{powerOfTwo, nameReadable, valueIsHash, bloomBitsSet, bucketRight, endsAtLast, lowest, longest, verdict}
-
--- of whether each of the five is kept
-abbrev pub firstBroken : (g1 g2 g3 g4 g5 : Bool) → ℕ
-firstBroken g1 g2 g3 g4 g5 = cond g1 (cond g2 (cond g3 (cond g4 (cond g5 0 5) 4) 3) 2) 1
-
-unfoldable pub brokenHeader : Layout → (count : ℕ) → ℕ
-brokenHeader layout count =
-    firstBroken
-    (leb 1 (layout .«symbol_base») && leb (layout .«symbol_base») count)
-    (powerOfTwo (layout .«bloom_count»))
-    (leb 1 (layout .«bucket_count»))
-    (leb (layout .«bloom_shift») 31)
-    (leb (count - layout .«symbol_base») (layout .«value_count»))
+use Rattle.gnu_rules.specs.Rules.{nameReadable, valueIsHash, bloomBitsSet, bucketRight, endsAtLast, lowest, longest, verdict}
 
 pub record Sound (layout : Layout) (count : ℕ) : Type 0 where
   pub base : layout .«symbol_base» ≤ count

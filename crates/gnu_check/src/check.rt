@@ -13,6 +13,7 @@ use gnu::header::HeaderAt;
 use gnu::header::Layout;
 use gnu::header::header;
 use gnu_rules::Checked;
+use gnu_rules::header_rules::broken_header;
 use symbol::table::SymbolCount;
 use symbol::table::symbol_count;
 ghost use mathlib.Core.Bool.{true};
@@ -20,49 +21,10 @@ ghost use mathlib.Core.Path.{_≡_};
 ghost use Prim.Native.Nat.{ℕ, _≤_, _<_};
 ghost use lib.ListN.{length};
 ghost use Rattle.endian.specs.Refusals.{limit};
-ghost use Rattle.gnu_rules.specs.Rules.{powerOfTwo, valueIsHash, gnuCheck};
+ghost use Rattle.gnu_rules.specs.Rules.{valueIsHash, gnuCheck};
 ghost use Rattle.gnu_rules.specs.Rules.{check as checkOf};
 ghost use Rattle.gnu_check.specs.Passes.{tableWith};
-ghost use Rattle.gnu_check.specs.Verdicts.{Sound, brokenHeader, fromNames, fromBuckets};
-
-// Whether a number is a power of two.
-fn is_power_of_two(n: u32) -> bool
-    ensures { λ r. ⌜ r ≡ powerOfTwo n ⌝ }
-{
-    let mut k: u32 = 0;
-    while k < 32 {
-        if n == 1 << k {
-            return true;
-        }
-        k += 1;
-    }
-    false
-}
-
-// The first broken rule of G1 to G5, or 0.
-fn broken_header(layout: Layout, count: u32) -> u8
-    ensures { λ r. ⌜ r ≡ brokenHeader layout count ⌝ }
-{
-    if layout.symbol_base < 1 {
-        return 1;
-    }
-    if count < layout.symbol_base {
-        return 1;
-    }
-    if !is_power_of_two(layout.bloom_count) {
-        return 2;
-    }
-    if layout.bucket_count < 1 {
-        return 3;
-    }
-    if 31 < layout.bloom_shift {
-        return 4;
-    }
-    if layout.value_count < count - layout.symbol_base {
-        return 5;
-    }
-    0
-}
+ghost use Rattle.gnu_check.specs.Verdicts.{Sound, fromNames, fromBuckets};
 
 // G9, G10 and the longest chain.
 fn check_buckets(

@@ -10,7 +10,8 @@ ghost use mathlib.Core.Path.{_≡_};
 ghost use Prim.Native.Nat.{_+_, _*_, _≤_, _<_, max};
 ghost use Rattle.endian.specs.Word.{wordAt};
 ghost use Rattle.gnu.specs.Table.{odd};
-ghost use Rattle.gnu_check.specs.Passes.{tableWith, lastIn, firstFrom};
+ghost use Rattle.gnu_rules.specs.Search.{firstFrom};
+ghost use Rattle.gnu_check.specs.Passes.{tableWith, lastIn};
 ghost use Rattle.gnu_check.specs.Runs.{endsRun, longestChain};
 
 // Whether the next symbol is of another bucket, or there is none.

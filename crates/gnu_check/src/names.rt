@@ -12,7 +12,8 @@ ghost use lib.ListN.{length};
 ghost use Rattle.endian.specs.Refusals.{limit};
 ghost use Rattle.symbol.specs.Table.{symbolAt};
 ghost use Rattle.lookup.specs.Wanted.{symbolIndex};
-ghost use Rattle.gnu_check.specs.Passes.{readableIn, startsBelow, firstFrom};
+ghost use Rattle.gnu_rules.specs.Search.{firstFrom};
+ghost use Rattle.gnu_check.specs.Passes.{readableIn, startsBelow};
 
 // Whether there is such a symbol and its name starts below a place.
 fn starts_below(class: Class, order: Order, symbols: &[u8], end: usize, i: u32) -> bool

@@ -12,7 +12,8 @@ ghost use mathlib.Core.Bool.{true, cond};
 ghost use lib.Dec.{eqb};
 ghost use Prim.Native.Nat.{ℕ, _-_, _≤_, _<_, min};
 ghost use Rattle.gnu_rules.specs.Rules.{valueIsHash};
-ghost use Rattle.gnu_check.specs.Passes.{tableWith, firstFrom};
+ghost use Rattle.gnu_rules.specs.Search.{firstFrom};
+ghost use Rattle.gnu_check.specs.Passes.{tableWith};
 ghost use Rattle.gnu_check.specs.Runs.{mayBe, stray, leastMisplaced, leastWrong};
 
 fn smaller(a: u32, b: u32) -> u32

@@ -8,7 +8,8 @@ ghost use mathlib.Core.Bool.{not};
 ghost use mathlib.Core.Path.{_≡_};
 ghost use Prim.Native.Nat.{_≤_};
 ghost use Rattle.gnu_rules.specs.Rules.{valueIsHash};
-ghost use Rattle.gnu_check.specs.Passes.{tableWith, firstFrom};
+ghost use Rattle.gnu_rules.specs.Search.{firstFrom};
+ghost use Rattle.gnu_check.specs.Passes.{tableWith};
 
 fn value_is_right(
     class: Class,

@@ -1,7 +1,7 @@
 -- In a table that keeps the rules, a lookup by the name's own hash finds the lowest symbol that is wanted. The bucket of
 -- the hash holds exactly the symbols v, v + 1, .., v + k (G9), and the chain from v ends at v + k (G10): the chain is the
--- bucket. A wanted symbol is in that bucket, its value compares equal (G7) and its bloom bits are set (G8). Assumes
--- nothing.
+-- bucket. A wanted symbol is in that bucket, its value compares equal (G7) and its bloom bits are set (G8).
+-- Assumes nothing.
 use Prim.Native.Nat.{ℕ, suc, _+_, _-_, _%_, _≤_, _<_, min}
 use mathlib.Core.Path.{_≡_, refl, sym, ap, _∙_}
 use mathlib.Core.Bool.{Bool, true, false, cond, _&&_}

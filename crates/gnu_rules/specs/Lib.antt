@@ -1,1 +1,3 @@
+pub mod HeaderRules
 pub mod Rules
+pub mod Search

@@ -1,5 +1,8 @@
-// What the GNU checker answers. Its rules stand in specs/, what an accepted table promises in proofs/.
+// What the GNU checker answers, and the rules of the header. All its rules stand in specs/, what an
+// accepted table promises in proofs/.
 use endian::refusals::Refusal;
+
+pub mod header_rules;
 
 // The longest chain; the first broken rule, and its lowest symbol or bucket, or 0; or a refusal.
 pub enum Checked {

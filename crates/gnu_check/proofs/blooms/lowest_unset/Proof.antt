@@ -12,7 +12,7 @@ use Rattle.gnu.specs.declared.header.Layout.{Layout}
 use Rattle.gnu.specs.Table.{bloomFirst, bloomSecond}
 use Rattle.gnu_rules.specs.Rules.{hashOf, bloomBitsSet}
 use Rattle.gnu_check.specs.Passes.{tableWith}
-use Rattle.gnu_check.proofs.Searching.{Searching, searching-start, searching-next, searching-here, searching-end}
+use Rattle.gnu_rules.proofs.Searching.{Searching, searching-start, searching-next, searching-here, searching-end}
 use Rattle.gnu_check.proofs.blooms.lowest_unset.Statement.{statement}
 use Rattle.gnu_check.proofs.blooms.lowest_unset.Tie as tie
 

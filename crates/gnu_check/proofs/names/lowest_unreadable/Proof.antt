@@ -11,7 +11,7 @@ use Rattle.symbol.specs.Table.{symbolAt}
 use Rattle.lookup.specs.Wanted.{symbolIndex}
 use Rattle.gnu_check.specs.Passes.{readableIn, startsBelow}
 use Rattle.gnu_check.proofs.Hashing.{name-readable}
-use Rattle.gnu_check.proofs.Searching.{Searching, searching-start, searching-next, searching-here, searching-end}
+use Rattle.gnu_rules.proofs.Searching.{Searching, searching-start, searching-next, searching-here, searching-end}
 use Rattle.gnu_check.proofs.names.lowest_unreadable.Statement.{statement}
 use Rattle.gnu_check.proofs.names.lowest_unreadable.Tie as tie
 

@@ -6,7 +6,7 @@ use native.Mathlib.Omega.{arith}
 use borrow.Author.Needs.{needs}
 use Rattle.gnu_check.specs.Passes.{tableWith}
 use Rattle.gnu_check.specs.Runs.{stray}
-use Rattle.gnu_check.proofs.Searching.{Searching, searching-start, searching-next, searching-here, searching-end}
+use Rattle.gnu_rules.proofs.Searching.{Searching, searching-start, searching-next, searching-here, searching-end}
 use Rattle.gnu_check.proofs.runs.lowest_stray.Statement.{statement}
 use Rattle.gnu_check.proofs.runs.lowest_stray.Tie as tie
 

@@ -7,9 +7,10 @@ use native.Mathlib.Omega.{arith}
 use borrow.Author.Needs.{needs}
 use Rattle.lookup.specs.Pick.{from, firstOf}
 use Rattle.gnu.specs.Table.{Table}
-use Rattle.gnu_check.specs.Passes.{tableWith, firstFrom}
+use Rattle.gnu_rules.specs.Search.{firstFrom}
+use Rattle.gnu_check.specs.Passes.{tableWith}
 use Rattle.gnu_check.specs.Runs.{stray, leastMisplaced}
-use Rattle.gnu_check.proofs.Searching.{first-le}
+use Rattle.gnu_rules.proofs.Searching.{first-le}
 use Rattle.gnu_check.proofs.Turns.{least-bound, lesser-both}
 use Rattle.gnu_check.proofs.runs.lowest_wrong_bucket.Statement.{statement}
 use Rattle.gnu_check.proofs.runs.lowest_wrong_bucket.Tie as tie

@@ -14,7 +14,7 @@ use native.Mathlib.Numerals.{add-one}
 use native.Mathlib.Omega.{arith}
 use Rattle.lookup.specs.Pick.{from, firstOf}
 use Rattle.lookup.proofs.Picking.{firstOf-lowest, firstOf-hit}
-use Rattle.gnu_check.specs.Passes.{firstFrom}
+use Rattle.gnu_rules.specs.Search.{firstFrom}
 
 pub record Searching (p : ℕ → Bool) (a e i : ℕ) : Type 0 where
   pub low : a ≤ i

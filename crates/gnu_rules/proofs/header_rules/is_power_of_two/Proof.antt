@@ -1,14 +1,14 @@
--- `gnu_check::check::is_power_of_two` meets its contract. The invariant: the first power from here on is the first of all.
+-- `gnu_rules::header_rules::is_power_of_two` meets its contract. The invariant: the first power from here on is the first of all.
 -- The measure is what is left of 32. Assumes nothing.
 use Prim.Native.Nat.{_-_}
 use mathlib.Core.Path.{sym, _∙_}
 use native.Mathlib.Omega.{arith}
 use borrow.Author.Needs.{needs}
 use borrow.Author.Tests.{eq-eqb, ne-eqb}
-use Rattle.gnu_check.proofs.Judged.{isPower, power-found, power-none, shifted}
-use Rattle.gnu_check.proofs.Searching.{Searching, searching-start, searching-next, searching-here, searching-end}
-use Rattle.gnu_check.proofs.check.is_power_of_two.Statement.{statement}
-use Rattle.gnu_check.proofs.check.is_power_of_two.Tie as tie
+use Rattle.gnu_rules.proofs.Powers.{isPower, power-found, power-none, shifted}
+use Rattle.gnu_rules.proofs.Searching.{Searching, searching-start, searching-next, searching-here, searching-end}
+use Rattle.gnu_rules.proofs.header_rules.is_power_of_two.Statement.{statement}
+use Rattle.gnu_rules.proofs.header_rules.is_power_of_two.Tie as tie
 
 abbrev Inv-loop : tie.InvT-loop
 Inv-loop n k₀ k = Searching (isPower n) 0 32 k

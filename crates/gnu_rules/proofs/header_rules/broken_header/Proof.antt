@@ -1,10 +1,10 @@
--- `gnu_check::check::broken_header` meets its contract. Each answer is the one that its tests pick. Assumes nothing.
+-- `gnu_rules::header_rules::broken_header` meets its contract. Each answer is the one that its tests pick. Assumes nothing.
 use mathlib.Core.Path.{sym, _∙_}
 use borrow.Author.Needs.{needs}
 use borrow.Author.Tests.{le-leb, lt-leb, not-true, not-false}
-use Rattle.gnu_check.specs.Verdicts.{brokenHeader}
-use Rattle.gnu_check.proofs.check.broken_header.Statement.{statement}
-use Rattle.gnu_check.proofs.check.broken_header.Tie as tie
+use Rattle.gnu_rules.specs.HeaderRules.{brokenHeader}
+use Rattle.gnu_rules.proofs.header_rules.broken_header.Statement.{statement}
+use Rattle.gnu_rules.proofs.header_rules.broken_header.Tie as tie
 
 returns : tie.Need-returns
 unfolding brokenHeader
