@@ -298,6 +298,46 @@ fn sysv_lookups() {
     }
 }
 
+#[test]
+fn checkers() {
+    for order in [Order::Little, Order::Big] {
+        let symbols = bytes_of(order, &[0, 0, 0, 0, 1, 0, 0, 0]);
+        let symbols = Symbols {
+            symbols: &symbols,
+            strings: b"\0a\0",
+        };
+        let check = |words: &[u32]| {
+            let table = bytes_of(order, words);
+            GnuTable::parse(Class::Elf32, order, &table)?.check(symbols)
+        };
+        let broken = |rule, place| Ok(GnuVerdict::Broken { rule, place });
+        let accepted = Ok(GnuVerdict::Accepted { longest: 1 });
+        assert_eq!(check(&[1, 1, 1, 5, 65_600, 1, 177_671]), accepted);
+        assert_eq!(check(&[1, 0, 1, 5, 65_600, 1, 177_671]), broken(1, 0));
+        assert_eq!(check(&[1, 1, 0, 5, 1, 177_671]), broken(2, 0));
+        assert_eq!(check(&[0, 1, 1, 5, 65_600, 177_671]), broken(3, 0));
+        assert_eq!(check(&[1, 1, 1, 32, 65_600, 1, 177_671]), broken(4, 0));
+        assert_eq!(check(&[1, 1, 1, 5, 65_600, 1]), broken(5, 0));
+        assert_eq!(check(&[1, 1, 1, 5, 65_600, 1, 177_673]), broken(7, 1));
+        assert_eq!(check(&[1, 1, 1, 5, 64, 1, 177_671]), broken(8, 1));
+        assert_eq!(check(&[1, 1, 1, 5, 65_600, 0, 177_671]), broken(9, 0));
+        assert_eq!(check(&[1, 1, 1, 5, 65_600, 1, 177_670]), broken(10, 1));
+        let check = |words: &[u32], symbols| {
+            let table = bytes_of(order, words);
+            SysvTable::parse(Class::Elf32, order, &table)?.check(symbols)
+        };
+        let broken = |rule| Ok(SysvVerdict::Broken { rule });
+        assert_eq!(check(&[1, 2, 1, 9, 0], symbols), Ok(SysvVerdict::Accepted));
+        assert_eq!(check(&[0, 2, 9, 0], symbols), broken(1));
+        let endless = Symbols {
+            strings: b"\0a",
+            ..symbols
+        };
+        assert_eq!(check(&[1, 2, 1, 9, 0], endless), broken(2));
+        assert_eq!(check(&[1, 2, 1, 9, 1], symbols), broken(3));
+    }
+}
+
 /// The accident's library: `import_lot` as LOT_1.0, hidden, and as LOT_2.0.
 #[test]
 fn a_lookup_binds_the_version_that_it_states() {
@@ -491,6 +531,11 @@ fn too_long_comes_first() {
     };
     let found = table.find(symbols, Versions::NONE, wanted);
     assert_eq!(found.map(drop), long);
+    let symbols = Symbols {
+        symbols: &part,
+        ..symbols
+    };
+    assert_eq!(table.check(symbols).map(drop), long);
     assert_eq!(segment_count(class, &part).map(drop), long);
     assert_eq!(segment_at(class, order, &part, 0).map(drop), long);
     assert_eq!(dynamic_entry(class, order, &part, 0).map(drop), long);

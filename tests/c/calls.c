@@ -243,6 +243,7 @@ static void lookups(void) {
     same("SysV chains", fetulombo_sysv_length(1, sysv, 19).refusal, FETULOMBO_BAD_SYSV_CHAINS);
     same("SysV buckets", fetulombo_sysv_length(1, sysv, 11).refusal, FETULOMBO_BAD_SYSV_BUCKETS);
     same("SysV header", fetulombo_sysv_length(1, sysv, 7).refusal, FETULOMBO_BAD_SYSV_HEADER);
+}
 
 static void segments(void) {
     /* Big, 32 bits: type 2, offset 1, vaddr 0x1000, paddr 3, filesz 20, memsz 5, flags 6, align 7. */
@@ -332,6 +333,35 @@ static void segments(void) {
     same("bad alignment", fetulombo_segment_notes(file, 24, 4, 4, 20, 5).refusal, FETULOMBO_BAD_NOTE_ALIGNMENT);
 }
 
+static void checks(void) {
+    static const uint8_t symbols[32] = {[16] = 1};
+    static const uint8_t strings[] = {0, 'a', 0};
+    uint32_t words[] = {1, 1, 1, 5, 65600, 1, 177671};
+    const uint8_t *table = (const uint8_t *)words;
+    fetulombo_check said = fetulombo_gnu_check(0, 0, table, sizeof words, symbols, 32, strings, 3);
+    same("checked, refusal", said.refusal, 0);
+    same("checked, accepted", said.accepted, 1);
+    same("checked, longest", said.longest, 1);
+    same("checked, rule and place", said.rule + said.place, 0);
+    words[6] = 177670;
+    said = fetulombo_gnu_check(0, 0, table, sizeof words, symbols, 32, strings, 3);
+    same("broken, accepted", said.accepted, 0);
+    same("broken, rule", said.rule, 10);
+    same("broken, place", said.place, 1);
+    same("broken, longest", said.longest, 0);
+    same("strings without a zero", fetulombo_gnu_check(0, 0, table, sizeof words, symbols, 32, strings, 2).rule, 6);
+    same("checked header", fetulombo_gnu_check(0, 0, table, 15, symbols, 32, strings, 3).refusal, FETULOMBO_BAD_GNU_HEADER);
+    const uint8_t sysv[] = {1, 0, 0, 0, 2, 0, 0, 0, 1, 0, 0, 0, 9, 0, 0, 0, 0, 0, 0, 0};
+    said = fetulombo_sysv_check(0, 0, sysv, sizeof sysv, symbols, 32, strings, 3);
+    same("SysV checked", said.accepted, 1);
+    same("SysV checked, refusal", said.refusal, 0);
+    said = fetulombo_sysv_check(0, 0, sysv, sizeof sysv, symbols, 16, strings, 3);
+    same("SysV broken", said.accepted, 0);
+    same("SysV broken, rule", said.rule, 1);
+    same("SysV checked chains", fetulombo_sysv_check(0, 0, sysv, 19, symbols, 32, strings, 3).refusal,
+         FETULOMBO_BAD_SYSV_CHAINS);
+}
+
 static void limits(void) {
     const size_t limit = FETULOMBO_LIMIT;
     uint8_t *part = calloc(limit + 1, 1);
@@ -387,6 +417,10 @@ static void limits(void) {
              fetulombo_sysv_find(0, 0, LENT(0), LENT(1), LENT(2), LENT(3), store, 12, LENT(4), LENT(5), 0, 0, 0, LENT(6))
                  .refusal,
              FETULOMBO_TOO_LONG);
+        if (which < 3) {
+            same("GNU check past it", fetulombo_gnu_check(0, 0, LENT(0), LENT(1), LENT(2)).refusal, FETULOMBO_TOO_LONG);
+            same("SysV check past it", fetulombo_sysv_check(0, 0, LENT(0), LENT(1), LENT(2)).refusal, FETULOMBO_TOO_LONG);
+        }
 #undef LENT
     }
     same("GNU length past it", fetulombo_gnu_length(0, 0, part, limit + 1).refusal, FETULOMBO_TOO_LONG);
@@ -413,6 +447,7 @@ int main(void) {
     notes();
     versions();
     lookups();
+    checks();
     segments();
     limits();
     if (failures != 0) {
