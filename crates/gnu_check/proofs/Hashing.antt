@@ -25,7 +25,7 @@ use Rattle.endian.specs.Refusals.{limit, noString}
 use Rattle.strings.specs.declared.StringAt.the-variants.{At, Refused}
 use Rattle.strings.specs.Strings.{isZero, readable, afterZero, stringAt}
 use Rattle.strings.proofs.Readable.{readable-below}
-use Rattle.symbol.specs.declared.entry.Symbol.{Symbol}
+use Rattle.symbol_entry.specs.declared.Symbol.{Symbol}
 use Rattle.symbol.specs.declared.table.SymbolAt.{SymbolAt}
 use Rattle.symbol.specs.declared.table.SymbolAt.the-variants.{At as Symbol·At, Refused as Symbol·Refused}
 use Rattle.symbol.specs.Table.{symbolAt, nameIn}
