@@ -439,7 +439,7 @@ fn libraries(run: &mut Run) {
             if table.is_empty() {
                 continue;
             }
-            let asked = names_of(run, kind, &made, 4_000 * run.scale);
+            let asked = names_of(run, kind, &made, usize::MAX);
             one(run, kind, &made, table, &asked);
             for _ in 0..3 * run.scale {
                 let damaged = damaged_words(&mut run.random, made.order, table);
