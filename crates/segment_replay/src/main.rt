@@ -2,9 +2,9 @@
 // (docs/COMPARISON.md). Prints how many there were and how many answers differ.
 use endian::kinds::Class;
 use endian::kinds::Order;
+use endian::words::u8_at;
 use endian::words::u32_at;
 use endian::words::u64_at;
-use endian::words::u8_at;
 use export::kinds::class_of;
 use export::kinds::order_of;
 use libc::STDIN_FILENO;
