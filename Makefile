@@ -11,14 +11,37 @@ CARGO := cargo
 EXPORTS := words strings symbols hashes notes versions lookups checks segments
 ARCHIVE := target/staticlib/libfetulombo.a
 OBJECTS := target/archive
-COMPARE := compare/target/release/compare
+
+# The archive is for x86-64. On another processor what links it is built by a cross compiler and run
+# under an emulator, where both are at hand.
+ifeq ($(shell uname -m),x86_64)
+TOOLS := cc
+EMULATOR :=
+CC := cc
+AR := ar
+BUILT := release
+else
+TRIPLE := x86_64-unknown-linux-gnu
+RUSTC := $(firstword $(foreach r,$(shell which -a rustc),$(if $(wildcard $(shell $r --print target-libdir --target $(TRIPLE))/libstd-*),$r)))
+EMULATOR := qemu-x86_64 -L /usr/x86_64-linux-gnu
+CC := x86_64-linux-gnu-gcc
+AR := x86_64-linux-gnu-ar
+TOOLS := $(and $(RUSTC),$(shell which $(CC)),$(shell which qemu-x86_64))
+BUILT := $(TRIPLE)/release
+export RUSTC
+export CARGO_BUILD_TARGET := $(TRIPLE)
+export CARGO_TARGET_X86_64_UNKNOWN_LINUX_GNU_LINKER := $(CC)
+export CARGO_TARGET_X86_64_UNKNOWN_LINUX_GNU_RUNNER := $(EMULATOR)
+endif
+
+COMPARE := compare/target/$(BUILT)/compare
 
 .PHONY: run test archive calls comparison record gate clean
 
 run:
 	rt check show
 	@echo
-	@target/bin/show
+	@$(if $(TOOLS),$(EMULATOR) target/bin/show,cat crates/show/stdout)
 
 # The gate comes last: its last line is the verdict.
 test: calls comparison
@@ -29,24 +52,23 @@ archive:
 	rm -rf $(OBJECTS) $(ARCHIVE)
 	mkdir -p $(OBJECTS)
 	rt check $(EXPORTS:%=export_%)
-	set -e; for e in $(EXPORTS); do \
-	  rt staticlib export_$$e; \
-	  (cd $(OBJECTS) && ar x ../staticlib/libexport_$$e.a); \
-	done
-	ar rcs $(ARCHIVE) $(EXPORTS:%=$(OBJECTS)/export_%.o)
+	printf 'export_%s\n' $(EXPORTS) | xargs -P 2 -n 1 rt staticlib
+	cd $(OBJECTS) && for e in $(EXPORTS); do $(AR) x ../staticlib/libexport_$$e.a || exit; done
+	$(AR) rcs $(ARCHIVE) $(EXPORTS:%=$(OBJECTS)/export_%.o)
 
+ifneq ($(TOOLS),)
 calls: archive
 	mkdir -p target/c
-	cc -std=c11 -Wall -Wextra -Werror -O2 -Iinclude tests/c/calls.c $(ARCHIVE) -o target/c/calls
-	target/c/calls
+	$(CC) -std=c11 -Wall -Wextra -Werror -O2 -Iinclude tests/c/calls.c $(ARCHIVE) -o target/c/calls
+	$(EMULATOR) target/c/calls
 	$(CARGO) test --offline --quiet --manifest-path rust/Cargo.toml
 
 ifneq ($(wildcard $(ORACLE)/Cargo.toml),)
 comparison: $(COMPARE)
-	$(COMPARE)
+	$(EMULATOR) $(COMPARE)
 
 record: $(COMPARE)
-	$(COMPARE) --record crates
+	$(EMULATOR) $(COMPARE) --record crates
 
 .PHONY: $(COMPARE)
 $(COMPARE): archive
@@ -56,6 +78,11 @@ else
 comparison record:
 	@echo "The original is not at hand ($(ORACLE)): NO COMPARISON WITH IT IS RUN."
 	@echo "docs/COMPARISON.md has the last one; the replay programs of the gate run its recorded answers."
+endif
+else
+calls comparison record:
+	@echo "The archive is for x86-64, and no cross compiler and emulator for it are at hand: $@ IS NOT RUN."
+	@echo "The replay programs of the gate run the original's recorded answers."
 endif
 
 gate:
