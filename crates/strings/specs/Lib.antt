@@ -1,1 +1,2 @@
 pub mod Strings
+pub mod Passed

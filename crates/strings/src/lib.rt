@@ -1,4 +1,6 @@
 // Strings of a string table: the one at an offset, and whether it is a wanted name.
+mod zeros;
+
 use endian::refusals::LIMIT;
 use endian::refusals::NO_STRING;
 use endian::refusals::Refusal;
@@ -21,15 +23,15 @@ pub fn string_at(strings: &[u8], offset: u32) -> StringAt
         return StringAt::Refused(TOO_LONG);
     }
     let start = offset as usize;
-    let mut i = start;
-    while i < strings.len() {
-        if strings[i] == 0 {
-            return StringAt::At {
-                start: start,
-                len: i - start,
-            };
-        }
-        i += 1;
+    if strings.len() <= start {
+        return StringAt::Refused(NO_STRING);
+    }
+    let end = zeros::zero_from(strings, start);
+    if end < strings.len() {
+        return StringAt::At {
+            start: start,
+            len: end - start,
+        };
     }
     StringAt::Refused(NO_STRING)
 }
