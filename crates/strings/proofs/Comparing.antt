@@ -1,5 +1,4 @@
 -- The comparison of a name with the bytes from a place on, as a loop makes it: what the fast body of `string_equals` rests on.
---     text, reads                                  what stands before the first zero, and whether it is there and the name
 --     readable-true, readable-false                whether a zero is there
 --     reads-zero, -differ, -next, -last, -short    one step of a comparison, on lists
 --     reads-step, -stop, -ended, -end              the same, of a loop that has compared i bytes
@@ -19,13 +18,8 @@ use borrow.Author.Tests.{lt-ltb, le-ltb, eq-eqb, ne-eqb, eqb-true, eqb-false}
 use Rattle.endian.specs.First.{first}
 use Rattle.endian.specs.Refusals.{limit, noString}
 use Rattle.strings.specs.declared.StringAt.the-variants.{At, Refused}
+use Rattle.strings.specs.Reads.{text, reads}
 use Rattle.strings.specs.Strings.{isZero, readable, same, isName, stringEquals}
-
-unfoldable pub text : List ℕ → List ℕ
-text rest = take (first isZero rest) rest
-
-unfoldable pub reads : List ℕ → List ℕ → Bool
-reads rest name = readable rest && same (text rest) name
 
 module _ (s : List ℕ) (at : ℕ) where
   pub readable-true : first isZero (drop at s) < length s - at → readable (drop at s) ≡ true

@@ -1,2 +1,3 @@
-pub mod Strings
 pub mod Passed
+pub mod Reads
+pub mod Strings

@@ -1,4 +1,5 @@
 // Strings of a string table: the one at an offset, and whether it is a wanted name.
+mod equal;
 mod zeros;
 
 use endian::refusals::LIMIT;
@@ -37,7 +38,7 @@ pub fn string_at(strings: &[u8], offset: u32) -> StringAt
 }
 
 // Whether `string_at` reads a string at the offset and it is the name, byte for byte. Compares while
-// reading, and stops at the first difference.
+// reading, whole blocks first, and stops at the first difference.
 pub fn string_equals(strings: &[u8], offset: u32, name: &[u8]) -> bool
     ensures { λ r. ⌜ r ≡ stringEquals (now (strings .entry)) offset (now (name .entry)) ⌝ }
 {
@@ -51,7 +52,8 @@ pub fn string_equals(strings: &[u8], offset: u32, name: &[u8]) -> bool
     if strings.len() - start <= name.len() {
         return false;
     }
-    for i in 0..name.len() {
+    let mut i = equal::same_blocks(strings, start, name);
+    while i < name.len() {
         let b = strings[start + i];
         if b != name[i] {
             return false;
@@ -59,6 +61,7 @@ pub fn string_equals(strings: &[u8], offset: u32, name: &[u8]) -> bool
         if b == 0 {
             return false;
         }
+        i += 1;
     }
     strings[start + name.len()] == 0
 }
