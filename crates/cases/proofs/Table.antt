@@ -12,7 +12,8 @@ use Rattle.endian.specs.First.{first}
 use Rattle.endian.specs.Refusals.{noteShort, badNoteDescriptor, badNoteAlignment, badProperty}
 use Rattle.endian.specs.Word.{wordAt}
 use Rattle.gnu.specs.Find.{gnuFind}
-use Rattle.gnu.specs.Table.{bloomFirst, bloomSecond, bloomFilter, startOf, lookup}
+use Rattle.gnu.specs.Lookup.{startOf, lookup}
+use Rattle.gnu_table.specs.Table.{bloomFirst, bloomSecond, bloomFilter}
 use Rattle.gnu_rules.specs.declared.Checked.the-variants.{Accepted}
 use Rattle.gnu_rules.specs.Rules.{gnuCheck, powerOfTwo, hashOf, isLast, findings, longest, verdict}
 use Rattle.lookup.specs.declared.Answer.{Answer}

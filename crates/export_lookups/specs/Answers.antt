@@ -5,8 +5,8 @@
 --     sysvLengthAnswer              of `ChainCount`
 -- Assumes nothing.
 use Rattle.lookup.specs.declared.Answer.{Answer}
-use Rattle.gnu.specs.declared.header.HeaderAt.{HeaderAt}
-use Rattle.gnu.specs.declared.length.TableLength.{TableLength}
+use Rattle.gnu_table.specs.declared.header.HeaderAt.{HeaderAt}
+use Rattle.gnu_length.specs.declared.TableLength.{TableLength}
 use Rattle.sysv.specs.declared.length.ChainCount.{ChainCount}
 use Rattle.export.specs.Answers.{number, noNumber}
 use Rattle.export.specs.declared.answers.NumberAnswer.{NumberAnswer}

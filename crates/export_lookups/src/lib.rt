@@ -5,15 +5,15 @@ use export::answers::number_answer;
 use export::kinds::class_of;
 use export::kinds::order_of;
 use export_versions::need_of;
-use gnu::header::HeaderAt;
-use gnu::length::TableLength;
+use gnu_length::TableLength;
+use gnu_table::header::HeaderAt;
 use lookup::Answer;
 use sysv::length::ChainCount;
 ghost use mathlib.Core.Path.{_≡_};
 ghost use Rattle.lookup.specs.Wanted.{Parts, Asked};
 ghost use Rattle.gnu.specs.Find.{gnuFind};
-ghost use Rattle.gnu.specs.Header.{gnuHeader};
-ghost use Rattle.gnu.specs.Length.{gnuLength};
+ghost use Rattle.gnu_length.specs.Length.{gnuLength};
+ghost use Rattle.gnu_table.specs.Header.{gnuHeader};
 ghost use Rattle.sysv.specs.Find.{sysvFind, sysvLength};
 ghost use Rattle.export.specs.Answers.{classOf, orderOf};
 ghost use Rattle.export_versions.specs.Answers.{needOf};
@@ -166,7 +166,7 @@ pub extern "C" fn fetulombo_sysv_find(
 pub extern "C" fn fetulombo_gnu_base(class: u8, order: u8, table: &[u8]) -> NumberAnswer
     ensures { λ r. ⌜ r ≡ baseAnswer (gnuHeader (classOf class) (orderOf order) (now (table .entry))) ⌝ }
 {
-    match gnu::header::header(class_of(class), order_of(order), table) {
+    match gnu_table::header::header(class_of(class), order_of(order), table) {
         HeaderAt::At(layout) => number_answer(layout.symbol_base as u64),
         HeaderAt::Refused(refusal) => no_number(refusal),
     }
@@ -177,7 +177,7 @@ pub extern "C" fn fetulombo_gnu_base(class: u8, order: u8, table: &[u8]) -> Numb
 pub extern "C" fn fetulombo_gnu_length(class: u8, order: u8, table: &[u8]) -> LengthAnswer
     ensures { λ r. ⌜ r ≡ gnuLengthAnswer (gnuLength (classOf class) (orderOf order) (now (table .entry))) ⌝ }
 {
-    match gnu::length::table_length(class_of(class), order_of(order), table) {
+    match gnu_length::table_length(class_of(class), order_of(order), table) {
         TableLength::Symbols(symbols) => LengthAnswer {
             refusal: 0,
             known: 1,

@@ -1,7 +1,6 @@
--- A lookup and a length by what was read of their parts.
---     filter-any             the bloom filter does not ask how many symbols there are
---     findBy, find-by        the lookup, by whether a part that is only compared is too long, the symbols and the header
---     lengthBy, length-by    the length, by the header
+-- A lookup by what was read of its parts.
+--     filter-any         the bloom filter does not ask how many symbols there are
+--     findBy, find-by    the lookup, by whether a part that is only compared is too long, the symbols and the header
 -- Assumes nothing.
 use Prim.Native.Nat.{ℕ, _/_}
 use mathlib.Core.Path.{_≡_, refl, sym, ap, _∙_}
@@ -18,14 +17,13 @@ use Rattle.symbol.specs.declared.table.SymbolCount.{SymbolCount}
 use Rattle.symbol.specs.Table.{symbolSize, symbolCount}
 use Rattle.lookup.specs.declared.Answer.{Answer}
 use Rattle.lookup.specs.Wanted.{Parts, Asked, wanted, unlessFault}
-use Rattle.gnu.specs.declared.header.HeaderAt.{HeaderAt}
-use Rattle.gnu.specs.declared.header.Layout.{Layout}
-use Rattle.gnu.specs.declared.length.TableLength.{TableLength}
-use Rattle.gnu.specs.Table.{bloomFirst, bloomSecond, bloomFilter, startOf, lookup}
-use Rattle.gnu.specs.Layout.{fault}
-use Rattle.gnu.specs.Header.{layoutOf, headerAnswer, gnuHeader, tableAt}
+use Rattle.gnu_table.specs.declared.header.HeaderAt.{HeaderAt}
+use Rattle.gnu_table.specs.declared.header.Layout.{Layout}
+use Rattle.gnu_table.specs.Table.{bloomFirst, bloomSecond, bloomFilter}
+use Rattle.gnu_table.specs.Layout.{fault}
+use Rattle.gnu_table.specs.Header.{layoutOf, headerAnswer, gnuHeader, tableAt}
 use Rattle.gnu.specs.Find.{gnuFind}
-use Rattle.gnu.specs.Length.{lengthOf, lengthAnswer, gnuLength}
+use Rattle.gnu.specs.Lookup.{startOf, lookup}
 
 pub filter-any : (class : Class) (order : Order) (table : List ℕ) (layout : Layout) (count h : ℕ)
     → bloomFilter (tableAt class order table layout 0) h ≡ bloomFilter (tableAt class order table layout count) h
@@ -74,22 +72,3 @@ module _ (class : Class) (order : Order) (p : Parts) (asked : Asked) (hash : ℕ
   find-by restLong counted header e f g =
       ap (λ b. findBy b counted header lookIn) e ∙ ap (λ (n : SymbolCount). findBy (anyLong rest) n header lookIn) f
       ∙ ap (λ (h : HeaderAt). findBy (anyLong rest) (symbolCount class (p .symbols)) h lookIn) g ∙ sym by-parts
-
-abbrev pub lengthBy : HeaderAt → (Layout → Option ℕ) → TableLength
-lengthBy (HeaderAt.Refused r) measure = TableLength.Refused r
-lengthBy (HeaderAt.At layout) measure = lengthAnswer none (measure layout)
-
-by-header : (long : Bool) (o : Option Refusal) (layout : Layout) (measure : Layout → Option ℕ)
-    → cond long (TableLength.Refused tooLong) (lengthAnswer o (measure layout))
-    ≡ lengthBy (cond long (HeaderAt.Refused tooLong) (headerAnswer o layout)) measure
-by-header true o layout measure = refl
-by-header false none layout measure = refl
-by-header false (some r) layout measure = refl
-
-pub length-by : (class : Class) (order : Order) (table : List ℕ)
-    → gnuLength class order table
-    ≡ lengthBy (gnuHeader class order table) (λ layout. lengthOf (tableAt class order table layout 0))
-unfolding gnuLength gnuHeader lengthOf
-length-by class order table =
-    by-header (ltb limit (length table)) (fault class order table) (layoutOf class order table)
-    (λ layout. lengthOf (tableAt class order table layout 0))

@@ -1,5 +1,4 @@
 -- A lookup in a table, a law for each answer, under the tests before it.
---     filter-none, -first, -shift, -second, -passes          what the bloom filter says of a hash
 --     start-none, -past, -below, -values, -is                where the walk of a hash starts
 --     InRange, start-range                                   a start that is not 0 is a symbol of the table, with a value
 --     lookup-stops, -refuses, -nowhere, -walks               what the lookup gives
@@ -8,38 +7,16 @@ use Prim.Native.Nat.{ℕ, _-_, _%_, _≤_, _<_}
 use mathlib.Core.Path.{_≡_, sym}
 use mathlib.Core.Bool.{Bool, true, false, not, _&&_, and-false}
 use lib.Dec.{leb, eqb}
-use borrow.Author.Tests.{eqb-true, leb-true, eq-eqb, ne-eqb, lt-ltb, le-ltb, le-leb, lt-leb}
+use borrow.Author.Tests.{eqb-true, leb-true, eq-eqb, ne-eqb, le-leb, lt-leb}
 use Rattle.endian.specs.Refusals.{badBloomShift}
 use Rattle.lookup.specs.declared.Answer.the-variants.{Missing, Refused}
 use Rattle.lookup.specs.Wanted.{walk}
 use Rattle.lookup.proofs.Picking.{by-test, and-left, and-right}
-use Rattle.gnu.specs.declared.filter.Bloom.the-variants.{Passes, Stops, Refuses}
-use Rattle.gnu.specs.Table.{Table, bloomFirst, bloomSecond, bloomFilter, starts, startOf, valueOf, sameButLow, chain, lookup}
+use Rattle.gnu_table.specs.declared.filter.Bloom.the-variants.{Passes, Stops, Refuses}
+use Rattle.gnu_table.specs.Table.{Table, bloomFilter, valueOf, sameButLow}
+use Rattle.gnu.specs.Lookup.{starts, startOf, chain, lookup}
 
 module _ (t : Table) (h : ℕ) where
-  pub filter-none : t .bloomCount ≡ 0 → bloomFilter t h ≡ Stops
-  unfolding bloomFilter
-  filter-none e = rw (eq-eqb _ _ e)
-
-  module _ (blooms : t .bloomCount ≡ 0 → ⊥) where
-    pub filter-first : bloomFirst t h ≡ false → bloomFilter t h ≡ Stops
-    unfolding bloomFilter
-    filter-first unset = rw (ne-eqb _ _ blooms, unset)
-
-    module _ (one : bloomFirst t h ≡ true) where
-      pub filter-shift : 31 < t .shift → bloomFilter t h ≡ Refuses
-      unfolding bloomFilter
-      filter-shift more = rw (ne-eqb _ _ blooms, one, lt-ltb 31 (t .shift) more)
-
-      module _ (small : t .shift ≤ 31) where
-        pub filter-second : bloomSecond t h ≡ false → bloomFilter t h ≡ Stops
-        unfolding bloomFilter
-        filter-second unset = rw (ne-eqb _ _ blooms, one, le-ltb 31 (t .shift) small, unset)
-
-        pub filter-passes : bloomSecond t h ≡ true → bloomFilter t h ≡ Passes
-        unfolding bloomFilter
-        filter-passes two = rw (ne-eqb _ _ blooms, one, le-ltb 31 (t .shift) small, two)
-
   pub start-none : t .bucketCount ≡ 0 → startOf t h ≡ 0
   unfolding startOf
   start-none e = rw (eq-eqb (t .bucketCount) 0 e)

@@ -19,10 +19,11 @@ use Rattle.lookup.specs.declared.Answer.the-variants.{Found, Missing, Refused}
 use Rattle.lookup.specs.Wanted.{Parts, Asked, allParts, nameOf, symbolIndex, wanted, unlessFault}
 use Rattle.lookup.proofs.Picking.{and-right}
 use Rattle.lookup.proofs.Distinct.{Same, wanted-named, wanted-fits, wanted-one, walk-wanted}
-use Rattle.gnu.specs.declared.filter.Bloom.{Bloom}
-use Rattle.gnu.specs.declared.filter.Bloom.the-variants.{Passes, Stops, Refuses}
-use Rattle.gnu.specs.Table.{Table, valueOf, sameButLow, chain, bloomFilter, startOf, filtered, lookup}
-use Rattle.gnu.specs.Layout.{fault}
+use Rattle.gnu_table.specs.declared.filter.Bloom.{Bloom}
+use Rattle.gnu_table.specs.declared.filter.Bloom.the-variants.{Passes, Stops, Refuses}
+use Rattle.gnu_table.specs.Table.{Table, valueOf, sameButLow, bloomFilter}
+use Rattle.gnu_table.specs.Layout.{fault}
+use Rattle.gnu.specs.Lookup.{chain, startOf, filtered, lookup}
 use Rattle.gnu.specs.Find.{gnuTable, gnuFind}
 
 module _ (i probes : ℕ) where

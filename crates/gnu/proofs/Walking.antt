@@ -1,5 +1,4 @@
 -- The walk, turn by turn. `walkFrom n` is what a walk that has made n probes answers of the pairs that are left.
---     from-cons         the next number of a run
 --     walkFrom-start    no probe made: the walk
 --     walkFrom-match    the next pair matches
 --     walkFrom-end      it does not, and ends the chain
@@ -9,20 +8,15 @@
 use Prim.Native.Nat.{ℕ, suc, _+_, _-_, _<_}
 use mathlib.Core.Path.{_≡_, ap}
 use mathlib.Core.Bool.{Bool, true, false}
-use mathlib.Core.List.{List, _∷_}
+use mathlib.Core.List.{List}
 use native.Mathlib.Nat.{zero-add, add-zero, sub-self}
-use native.Mathlib.Numerals.{add-one}
 use native.Mathlib.Omega.{arith}
 use lib.ListN.{length}
 use Rattle.lookup.specs.declared.Answer.{Answer}
 use Rattle.lookup.specs.declared.Answer.the-variants.{Found, Missing}
 use Rattle.lookup.specs.Pick.{from, firstOf, upTo}
 use Rattle.lookup.specs.Wanted.{symbolIndex, answerOf, walk}
-
-pub from-cons : (i e : ℕ) → i < e → from i (e - i) ≡ i ∷ from (i + 1) (e - (i + 1))
-from-cons i e more =
-    let s : e - i ≡ suc (e - (i + 1)) = omega arith in
-    rw (s, add-one i)
+use Rattle.lookup.proofs.Picking.{from-cons}
 
 module _ (match ends : ℕ → Bool) where
   abbrev pub walkFrom : ℕ → List ℕ → Answer

@@ -8,8 +8,9 @@ use Rattle.endian.specs.Refusals.{anyLong, tooLong}
 use Rattle.lookup.specs.declared.Answer.{Answer}
 use Rattle.lookup.specs.declared.Answer.the-variants.{Refused}
 use Rattle.lookup.specs.Wanted.{Parts, Asked, allParts, wanted, unlessFault}
-use Rattle.gnu.specs.Table.{Table, lookup}
-use Rattle.gnu.specs.Layout.{fault, tableOf}
+use Rattle.gnu_table.specs.Table.{Table}
+use Rattle.gnu_table.specs.Layout.{fault, tableOf}
+use Rattle.gnu.specs.Lookup.{lookup}
 
 abbrev pub gnuTable : Class → Order → Parts → Table
 gnuTable class order p = tableOf class order (p .table) (p .symbols) (p .strings)

@@ -1,6 +1,3 @@
 pub mod Find
-pub mod Header
-pub mod Layout
-pub mod Length
-pub mod Table
+pub mod Lookup
 pub mod Walk

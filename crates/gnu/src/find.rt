@@ -1,9 +1,4 @@
 // The lookup of a name, by its hash, in a GNU table.
-use super::filter::Bloom;
-use super::filter::bloom_filter;
-use super::header::HeaderAt;
-use super::header::Layout;
-use super::header::header;
 use super::start::start_of;
 use super::walk::walk;
 use endian::kinds::Class;
@@ -11,6 +6,11 @@ use endian::kinds::Order;
 use endian::refusals::BAD_BLOOM_SHIFT;
 use endian::refusals::LIMIT;
 use endian::refusals::TOO_LONG;
+use gnu_table::filter::Bloom;
+use gnu_table::filter::bloom_filter;
+use gnu_table::header::HeaderAt;
+use gnu_table::header::Layout;
+use gnu_table::header::header;
 use lookup::Answer;
 use symbol::table::SymbolCount;
 use symbol::table::symbol_count;
@@ -20,8 +20,8 @@ ghost use mathlib.Core.List.{[], _∷_};
 ghost use Prim.Native.Nat.{min};
 ghost use Rattle.endian.specs.Refusals.{anyLong};
 ghost use Rattle.lookup.specs.Wanted.{wanted};
-ghost use Rattle.gnu.specs.Table.{lookup as lookupOf};
-ghost use Rattle.gnu.specs.Header.{tableAt};
+ghost use Rattle.gnu_table.specs.Header.{tableAt};
+ghost use Rattle.gnu.specs.Lookup.{lookup as lookupOf};
 ghost use Rattle.gnu.specs.Find.{gnuFind};
 
 fn smaller(a: u32, b: u32) -> u32
@@ -121,7 +121,7 @@ fn lookup_at(
 
 // The symbol that a name binds to, with its hash and the version that is needed: found with the
 // probes made, or none with them. Refused in this order: a part or a name that is too long; as
-// `header`; a bloom_shift above 31, where the second bit of the bloom filter is reached.
+// `gnu_table::header::header`; a bloom_shift above 31, where the second bit of the bloom filter is reached.
 pub fn find(
     class: Class,
     order: Order,

@@ -1,7 +1,4 @@
-// The GNU hash table: a lookup with its probes, and the length of the symbol table.
-pub mod filter;
+// The GNU hash table: a lookup with its probes.
 pub mod find;
-pub mod header;
-pub mod length;
 mod start;
 mod walk;

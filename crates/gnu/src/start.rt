@@ -1,11 +1,11 @@
 // Where the walk of a hash starts.
-use super::header::Layout;
 use endian::kinds::Class;
 use endian::kinds::Order;
 use endian::words::u32_at;
+use gnu_table::header::Layout;
 ghost use mathlib.Core.Path.{_≡_};
-ghost use Rattle.gnu.specs.Table.{startOf};
-ghost use Rattle.gnu.specs.Header.{tableAt};
+ghost use Rattle.gnu_table.specs.Header.{tableAt};
+ghost use Rattle.gnu.specs.Lookup.{startOf};
 
 // The first symbol of the hash's bucket, or 0 where there is no bucket, or its value is 0, past the
 // symbols, below symbol_base or past the values.

@@ -1,8 +1,9 @@
 -- The checker's answer, step by step.
 --     judge-header, header-broken, header-kept    the answer by G1 to G5; what a table keeps that breaks none of them
+--     bits-search                             what the bloom filter says of G8
 --     from-names-6, -7, -8, -kept             the answer by G6 to G8
 --     wrong-bucket, right-buckets             what the pass over the buckets says of G9
---     wrong-end, right-ends                   after G9, what the pass by the next symbol says of G10
+--     ends-search                             what the pass by the next symbol looks for
 --     from-buckets-9, -10, -accepted          the answer by G9 and G10
 --     checkFrom, check-told                   the answer by what was read of the parts
 -- Assumes nothing.
@@ -24,23 +25,24 @@ use Rattle.symbol.specs.declared.table.SymbolCount.{SymbolCount}
 use Rattle.symbol.specs.Table.{symbolSize, symbolCount}
 use Rattle.lookup.specs.Pick.{from, largest}
 use Rattle.lookup.proofs.Picking.{All, all-from, firstOf-cong, by-test, and-right, beq-eq}
-use Rattle.gnu.specs.declared.header.HeaderAt.{HeaderAt}
-use Rattle.gnu.specs.declared.header.Layout.{Layout}
-use Rattle.gnu.specs.Table.{Table, hashed, valueOf, odd}
-use Rattle.gnu.specs.Layout.{fault}
-use Rattle.gnu.specs.Header.{layoutOf, headerAnswer, gnuHeader}
+use Rattle.gnu_table.specs.declared.header.HeaderAt.{HeaderAt}
+use Rattle.gnu_table.specs.declared.header.Layout.{Layout}
+use Rattle.gnu_table.specs.Table.{Table, hashed, valueOf, odd}
+use Rattle.gnu_table.specs.Layout.{fault}
+use Rattle.gnu_table.specs.Header.{layoutOf, headerAnswer, gnuHeader, tableWith}
 use Rattle.gnu_rules.specs.declared.Checked.{Checked}
 use Rattle.gnu_rules.specs.declared.Checked.the-variants.{Accepted, Broken, Refused}
 use Rattle.gnu_rules.specs.Rules.{bucketOf, powerOfTwo, baseWithin, bloomCountPower, someBucket, shiftWithin, enoughValues, nameReadable, valueIsHash, bloomBitsSet, bucketRight, endsAtLast, whole, lowest, findings, longest, verdict, check, unlessRefused, gnuCheck}
 use Rattle.gnu_rules.proofs.Kept.{power-low, lowest-none}
 use Rattle.gnu_rules.specs.Search.{firstFrom}
-use Rattle.gnu_check.specs.Passes.{tableWith}
-use Rattle.gnu_check.specs.Runs.{runStart, leastWrong, lastOfRun, endsRun, longestRun, chainStart, longestChain}
 use Rattle.gnu_rules.specs.HeaderRules.{firstBroken, brokenHeader}
+use Rattle.gnu_values.specs.Blooms.{hashPasses}
+use Rattle.gnu_values.proofs.Filtered.{bits-set}
+use Rattle.gnu_runs.specs.Runs.{runStart, wrongBucket}
+use Rattle.gnu_ends.specs.Ends.{lastOfRun, endsRun, wrongEnd, chainStart, longestChain}
 use Rattle.gnu_check.specs.Verdicts.{Sound, fromNames, fromBuckets}
-use Rattle.gnu_check.proofs.Lasts.{last-of-run, longest-run}
+use Rattle.gnu_check.proofs.Lasts.{last-of-run, longestRun, longest-run}
 use Rattle.gnu_rules.proofs.Searching.{first-some, first-none}
-use Rattle.gnu_check.proofs.Turns.{flip}
 use Rattle.gnu_check.proofs.Wrong.{least-wrong}
 
 -- ---- G1 to G5
@@ -116,6 +118,15 @@ module _ (t : Table) (within : t .base ≤ t .count) where
     pub lowest-nowhere : r ≡ t .count → lowest kept (hashed t) ≡ none
     lowest-nowhere same = first-none (λ i. not (kept i)) (t .base) (t .count) r answer within same
 
+  -- where there are bloom words and the shift is no more than 31, what the bloom filter says is G8
+  pub bits-search : 1 ≤ t .bloomCount → t .shift ≤ 31 → (r : ℕ) → r ≡ firstFrom (λ i. not (hashPasses t i)) (t .base) (t .count)
+      → r ≡ firstFrom (λ i. not (bloomBitsSet t i)) (t .base) (t .count)
+  unfolding firstFrom
+  bits-search blooms small r answer =
+      answer ∙ ap (λ o. Option·getD o (t .count))
+      (firstOf-cong (λ i. not (hashPasses t i)) (λ i. not (bloomBitsSet t i)) (hashed t)
+      (all-from _ (t .base) (t .count - t .base) (λ i lo hi. ap not (bits-set t blooms small i))))
+
   pub all-kept : (kept : ℕ → Bool) → lowest kept (hashed t) ≡ none → (i : ℕ) → t .base ≤ i → i < t .count → kept i ≡ true
   all-kept kept none-broken i lo hi = lowest-none kept (t .base) (t .count - t .base) none-broken i lo (omega arith)
 
@@ -150,10 +161,12 @@ map-same f g [] h = refl
 map-same f g (x ∷ xs) h = rw (h .0, map-same f g xs (h .1))
 
 module _ (t : Table) (some-bucket : 1 ≤ t .bucketCount) where
-  module _ (r : ℕ) (answer : r ≡ Option·getD (leastWrong t) (t .bucketCount)) where
+  module _ (right : (i : ℕ) → t .base ≤ i → i < t .count → valueIsHash t i ≡ true) (r : ℕ) (answer : r ≡ wrongBucket t) where
     as-search : r ≡ firstFrom (λ b. not (bucketRight t b)) 0 (t .bucketCount)
-    unfolding firstFrom
-    as-search = answer ∙ rw (least-wrong t some-bucket, sub-zero (t .bucketCount))
+    unfolding firstFrom wrongBucket
+    as-search =
+        answer
+        ∙ rw (ne-eqb (t .bucketCount) 0 (omega arith), least-wrong t some-bucket right, sub-zero (t .bucketCount))
 
     pub wrong-bucket : ¬ (r ≡ t .bucketCount) → fromBuckets t ≡ Broken 9 r
     unfolding fromBuckets verdict
@@ -167,6 +180,10 @@ module _ (t : Table) (some-bucket : 1 ≤ t .bucketCount) where
     right-buckets same =
         rw (sub-zero (t .bucketCount)) at (first-none (λ b. not (bucketRight t b)) 0 (t .bucketCount) r as-search
         (omega arith) same)
+
+  pub ends-search : (r : ℕ) → r ≡ wrongEnd t → r ≡ firstFrom (λ i. not (endsRun t i)) (t .base) (t .count)
+  unfolding wrongEnd
+  ends-search r answer = answer ∙ rw (ne-eqb (t .bucketCount) 0 (omega arith))
 
   module _ (within : t .base ≤ t .count) (nine : lowest (bucketRight t) (from 0 (t .bucketCount)) ≡ none) where
     kept : (b : ℕ) → b < t .bucketCount → bucketRight t b ≡ true
@@ -201,7 +218,7 @@ module _ (t : Table) (some-bucket : 1 ≤ t .bucketCount) where
           ∙ (rw (next, lt-ltb (t .base + suc k) (t .count) low) at (ended here (omega arith) (omega arith)))
           ∙ ap not (eqb-swap (bucketOf t (t .base + suc k)) (bucketOf t here)) in
           rw (bit, starts-same k (omega arith))
-          (sym (flip (eqb (bucketOf t here) (bucketOf t (t .base + suc k))) (runStart t k) (t .base + suc k)))
+          (by-test (eqb (bucketOf t here) (bucketOf t (t .base + suc k))) (λ e. rw e) (λ e. rw e))
 
       chain-is : longestChain (t .base) (t .value) (t .count) ≡ longestRun t
       chain-is =

@@ -1,21 +1,22 @@
 -- Where G9 holds, a bucket's symbols are one run, so its last symbol is the last of the run, and the longest chain is the
 -- longest run.
---     last-of-run    G10 may look at the next symbol alone
---     longest-run    the longest run is the longest chain
+--     last-of-run                G10 may look at the next symbol alone
+--     longestRun, longest-run    the longest run, or 0, is the longest chain
 -- Assumes nothing.
 use mathlib.Core.Path.{_≡_, refl, sym, ap, _∙_}
 use mathlib.Core.Bool.{true, _&&_}
-use mathlib.Core.List.{List, [], _∷_}
+use mathlib.Core.List.{List, [], _∷_, map}
 use Prim.Native.Nat.{ℕ, suc, _+_, _-_, _≤_, _<_}
 use native.Mathlib.Omega.{arith}
 use native.Mathlib.Nat.{mod-lt, le-antisymm}
 use lib.Dec.{ltb}
 use lib.ListN.{length}
 use borrow.Author.Tests.{eqb-true, eq-eqb, ltb-true, ltb-false, lt-ltb}
-use Rattle.lookup.specs.Pick.{from}
-use Rattle.gnu.specs.Table.{Table, hashed}
+use Rattle.lookup.specs.Pick.{from, largest}
+use Rattle.gnu_table.specs.Table.{Table, hashed}
 use Rattle.gnu_rules.specs.Rules.{hashOf, bucketOf, inBucket, members, isLast, holds, longest, bucketRight}
-use Rattle.gnu_check.specs.Runs.{runStart, lastOfRun, longestRun}
+use Rattle.gnu_runs.specs.Runs.{runStart}
+use Rattle.gnu_ends.specs.Ends.{lastOfRun}
 use Rattle.lookup.proofs.Picking.{all-from, length-from, largest-le, largest-upper, by-test, and-left, and-right}
 use Rattle.gnu_rules.proofs.Members.{holds-run, no-member, inside, outside, last, not-last}
 use Rattle.gnu_check.proofs.Starts.{kept-right}
@@ -45,6 +46,9 @@ in-run t b v k run i lo hi =
     (and-right (ltb (suc i) (t .count)) (inBucket t (bucketOf t i) (suc i)) both) ∙ here)) in
     absurd (omega arith))
     (λ none-next. rw none-next))
+
+abbrev pub longestRun : Table → ℕ
+longestRun t = largest (map (λ i. suc i - runStart t (i - t .base)) (hashed t))
 
 module _ (t : Table) (some-bucket : 1 ≤ t .bucketCount) (kept : (b : ℕ) → b < t .bucketCount → bucketRight t b ≡ true) where
   -- the run of a bucket that a hashed symbol is in

@@ -1,12 +1,13 @@
 -- A bucket keeps G9 exactly if it holds 0 or the start of a run of its own, and the bucket of each of its symbols holds the
 -- start of its run.
 --     Start, start-of             where the run of a symbol starts, and that `runStart` says so; a run has one start
---     begins-start, start-begins  what `begins` decides
+--     plainBegins, plainStray     a symbol is the first of a run of a bucket; a bucket holds neither 0 nor such a symbol
+--     begins-start, start-begins  what `plainBegins` decides
 --     Right                       what the passes ask of a bucket
 --     right-kept, kept-right      it is G9
 -- Assumes nothing.
 use mathlib.Core.Path.{_≡_, refl, sym, ap, _∙_, subst, subst₂}
-use mathlib.Core.Bool.{true, false, not, _&&_, _||_, false≢true, and-false}
+use mathlib.Core.Bool.{Bool, true, false, not, _&&_, _||_, false≢true, and-false}
 use mathlib.Core.Logic.{_⊎_, ⊎-elim}
 use mathlib.Core.List.{List, [], _∷_}
 use Prim.Native.Nat.{ℕ, zero, suc, _+_, _-_, _≤_, _<_}
@@ -16,9 +17,9 @@ use lib.Dec.{leb, ltb, eqb}
 use lib.ListN.{length}
 use borrow.Author.Tests.{leb-true, ltb-true, eqb-true, eqb-false, eq-eqb, ne-eqb, le-leb, lt-ltb}
 use Rattle.lookup.specs.Pick.{from, select}
-use Rattle.gnu.specs.Table.{Table}
+use Rattle.gnu_table.specs.Table.{Table}
 use Rattle.gnu_rules.specs.Rules.{bucketOf, inBucket, members, holds, bucketRight}
-use Rattle.gnu_check.specs.Runs.{runStart, begins, stray}
+use Rattle.gnu_runs.specs.Runs.{runStart}
 use Rattle.gnu_rules.proofs.Members.{holds-run, run-holds, all-members, no-member, inside, outside}
 use Rattle.lookup.proofs.Picking.{All, all-from, from-append, select-append, select-none, select-front, by-test, and-left, and-right, not-none}
 
@@ -66,12 +67,18 @@ module _ (t : Table) where
   pub start-of : (i : ℕ) → t .base ≤ i → Start (bucketOf t i) (runStart t (i - t .base)) i
   start-of i lo = let z : t .base + (i - t .base) ≡ i = omega arith in rw z at (run-start (i - t .base))
 
+  abbrev pub plainBegins : ℕ → ℕ → Bool
+  plainBegins b v = (leb (t .base) v && ltb v (t .count)) && (inBucket t b v && (eqb v (t .base) || not (inBucket t b (v - 1))))
+
+  unfoldable pub plainStray : ℕ → Bool
+  plainStray b = not (eqb (t .bucket b) 0) && not (plainBegins b (t .bucket b))
+
   -- what the pass asks of bucket b
   pub record Right (b : ℕ) : Type 0 where
-    pub own : stray t b ≡ false
+    pub own : plainStray b ≡ false
     pub placed : (i : ℕ) → t .base ≤ i → i < t .count → bucketOf t i ≡ b → t .bucket b ≡ runStart t (i - t .base)
 
-  pub begins-start : (b v : ℕ) → begins t b v ≡ true → Start b v v × (v < t .count)
+  pub begins-start : (b v : ℕ) → plainBegins b v ≡ true → Start b v v × (v < t .count)
   begins-start b v h =
       let range = and-left (leb (t .base) v && ltb v (t .count))
       (inBucket t b v && (eqb v (t .base) || not (inBucket t b (v - 1)))) h in
@@ -89,7 +96,7 @@ module _ (t : Table) where
         ltb-true _ _ (and-right (leb (t .base) v) (ltb v (t .count)) range),
       )
 
-  pub start-begins : (b v : ℕ) → Start b v v → v < t .count → begins t b v ≡ true
+  pub start-begins : (b v : ℕ) → Start b v v → v < t .count → plainBegins b v ≡ true
   start-begins b v r hi =
       rw (le-leb (t .base) v (r .low), lt-ltb v (t .count) hi, eq-eqb _ _ (r .same v (le-refl v) (le-refl v)))
       (by-test (eqb v (t .base)) (λ e. rw e)
@@ -122,7 +129,7 @@ module _ (t : Table) where
       rw whole above
 
   pub right-kept : (b : ℕ) → Right b → bucketRight t b ≡ true
-  unfolding stray
+  unfolding plainStray
   right-kept b r = go (members t b) refl
     where
       v : ℕ
@@ -132,7 +139,7 @@ module _ (t : Table) where
       go [] e =
           by-test (eqb v 0) (λ z. z)
           (λ apart. let own = r .own in
-          let start = begins-start b v (not-none (begins t b v) (rw apart at own)) in
+          let start = begins-start b v (not-none (plainBegins b v) (rw apart at own)) in
           absurd (no-member t b e v (start .0 .low) (start .1) (eq-eqb _ _ (start .0 .same v (le-refl v) (le-refl v)))))
       go (m ∷ ms) e =
           let one = subst (All _) e (all-members t b) .0 in
@@ -140,7 +147,7 @@ module _ (t : Table) where
           run-holds v m ms (rw e at run)
 
   pub kept-right : (b : ℕ) → bucketRight t b ≡ true → Right b
-  unfolding stray
+  unfolding plainStray
   kept-right b h = go (members t b) refl h
     where
       v : ℕ

@@ -1,7 +1,7 @@
 -- Both passes together find the lowest bucket that breaks G9: a bucket breaks it exactly if it is stray or has a misplaced
 -- symbol.
 --     Amiss          a misplaced symbol of a bucket
---     least-wrong    `leastWrong` is the lowest bucket that breaks G9
+--     least-wrong    after G7, `leastWrong` is the lowest bucket that breaks G9
 -- Assumes nothing.
 use mathlib.Core.Path.{_≡_, refl, sym, ap, _∙_, subst}
 use mathlib.Core.Bool.{Bool, true, false, not, cond, _&&_, true≢false, false≢true}
@@ -12,12 +12,13 @@ use native.Mathlib.Omega.{arith}
 use native.Mathlib.Nat.{le-refl, mod-lt, eq-or-lt-of-le}
 use borrow.Author.Tests.{eqb-true, eq-eqb, not-true}
 use Rattle.lookup.specs.Pick.{from, firstOf}
-use Rattle.gnu.specs.Table.{Table, hashed}
-use Rattle.gnu_rules.specs.Rules.{hashOf, bucketOf, inBucket, lowest, bucketRight}
-use Rattle.gnu_check.specs.Runs.{misplaced, stray, leastMisplaced, leastWrong}
-use Rattle.lookup.proofs.Picking.{from-all, none-firstOf, firstOf-lowest, by-test, and-left, and-right, not-none}
+use Rattle.gnu_table.specs.Table.{Table, hashed}
+use Rattle.gnu_rules.specs.Rules.{hashOf, bucketOf, inBucket, valueIsHash, lowest, bucketRight}
+use Rattle.gnu_runs.specs.Runs.{lesser, misplaced, stray, leastMisplaced, leastWrong}
+use Rattle.lookup.proofs.Picking.{all-from, from-all, firstOf-cong, none-firstOf, firstOf-lowest, by-test, and-left, and-right, not-none}
 use Rattle.gnu_check.proofs.Least.{Least, least-unique, least-map, lesser-least, firstOf-least}
-use Rattle.gnu_check.proofs.Starts.{Right, right-kept, kept-right}
+use Rattle.gnu_check.proofs.Ruled.{stray-plain}
+use Rattle.gnu_check.proofs.Starts.{Right, plainStray, right-kept, kept-right}
 
 -- one number, where a test passes
 one : (b : Bool) (x : ℕ) → Least (λ c. (b ≡ true) × (x ≡ c)) (cond b (some x) none)
@@ -43,7 +44,7 @@ module _ (t : Table) where
       (one (misplaced t i) (bucketOf t i)) (least-misplaced (suc i) k))
 
   -- a bucket breaks G9 exactly if it is stray or has a misplaced symbol
-  broken : (c : ℕ) → (stray t c ≡ true) ⊎ Amiss (t .base) (t .base + (t .count - t .base)) c → bucketRight t c ≡ false
+  broken : (c : ℕ) → (plainStray t c ≡ true) ⊎ Amiss (t .base) (t .base + (t .count - t .base)) c → bucketRight t c ≡ false
   broken c h =
       by-test (bucketRight t c)
       (λ e. let r = kept-right t c e in
@@ -54,14 +55,14 @@ module _ (t : Table) where
       ) at (m .3))) h))
       (λ e. e)
 
-  why : (c : ℕ) → bucketRight t c ≡ false → (stray t c ≡ true) ⊎ Amiss (t .base) (t .base + (t .count - t .base)) c
-  why c h = by-test (stray t c) inl (λ s. go s (firstOf amiss (hashed t)) refl)
+  why : (c : ℕ) → bucketRight t c ≡ false → (plainStray t c ≡ true) ⊎ Amiss (t .base) (t .base + (t .count - t .base)) c
+  why c h = by-test (plainStray t c) inl (λ s. go s (firstOf amiss (hashed t)) refl)
     where
       amiss : ℕ → Bool
       amiss j = inBucket t c j && misplaced t j
 
-      go : stray t c ≡ false → (o : Option ℕ) → firstOf amiss (hashed t) ≡ o
-          → (stray t c ≡ true) ⊎ Amiss (t .base) (t .base + (t .count - t .base)) c
+      go : plainStray t c ≡ false → (o : Option ℕ) → firstOf amiss (hashed t) ≡ o
+          → (plainStray t c ≡ true) ⊎ Amiss (t .base) (t .base + (t .count - t .base)) c
       go s none e =
           let none-amiss = from-all (λ j. amiss j ≡ false) (t .base) (t .count - t .base)
           (none-firstOf amiss (hashed t) e) in
@@ -83,19 +84,30 @@ module _ (t : Table) where
             eqb-true _ _ (and-left (inBucket t c j) (misplaced t j) (l .passes)),
           )
 
-  pub least-wrong : 1 ≤ t .bucketCount → leastWrong t ≡ lowest (bucketRight t) (from 0 (t .bucketCount))
-  least-wrong some-bucket =
-      least-unique Breaks (leastWrong t) (lowest (bucketRight t) (from 0 (t .bucketCount)))
-      (least-map (λ c. ((c < t .bucketCount) × (stray t c ≡ true)) ⊎ Amiss (t .base)
+  abbrev plainWrong : Option ℕ
+  plainWrong = lesser (firstOf (plainStray t) (from 0 (t .bucketCount))) (leastMisplaced t (t .base) (t .count - t .base))
+
+  plain-wrong : 1 ≤ t .bucketCount → plainWrong ≡ lowest (bucketRight t) (from 0 (t .bucketCount))
+  plain-wrong some-bucket =
+      least-unique Breaks plainWrong (lowest (bucketRight t) (from 0 (t .bucketCount)))
+      (least-map (λ c. ((c < t .bucketCount) × (plainStray t c ≡ true)) ⊎ Amiss (t .base)
       (t .base + (t .count - t .base)) c) Breaks
       (λ c. ⊎-elim (λ h. (h .0, ap not (broken c (inl (h .1)))))
       (λ h. (subst (λ x. x < t .bucketCount) (h .4) (mod-lt (hashOf t (h .0)) some-bucket), ap not (broken c (inr h)))))
       (λ c h. ⊎-elim (λ s. inl (h .0, s)) inr (why c (not-true (bucketRight t c) (h .1))))
-      (leastWrong t)
-      (lesser-least (λ c. (c < t .bucketCount) × (stray t c ≡ true)) (Amiss (t .base) (t .base + (t .count - t .base)))
-      (firstOf (stray t) (from 0 (t .bucketCount))) (leastMisplaced t (t .base) (t .count - t .base))
-      (firstOf-least (stray t) (t .bucketCount)) (least-misplaced (t .base) (t .count - t .base))))
+      plainWrong
+      (lesser-least (λ c. (c < t .bucketCount) × (plainStray t c ≡ true)) (Amiss (t .base) (t .base + (t .count - t .base)))
+      (firstOf (plainStray t) (from 0 (t .bucketCount))) (leastMisplaced t (t .base) (t .count - t .base))
+      (firstOf-least (plainStray t) (t .bucketCount)) (least-misplaced (t .base) (t .count - t .base))))
       (firstOf-least (λ b. not (bucketRight t b)) (t .bucketCount))
     where
       Breaks : ℕ → Type 0
       Breaks c = (c < t .bucketCount) × (not (bucketRight t c) ≡ true)
+
+  pub least-wrong : 1 ≤ t .bucketCount → ((i : ℕ) → t .base ≤ i → i < t .count → valueIsHash t i ≡ true)
+      → leastWrong t ≡ lowest (bucketRight t) (from 0 (t .bucketCount))
+  least-wrong some-bucket right =
+      ap (λ o. lesser o (leastMisplaced t (t .base) (t .count - t .base)))
+      (firstOf-cong (stray t) (plainStray t) (from 0 (t .bucketCount))
+      (all-from _ 0 (t .bucketCount) (λ b lo hi. stray-plain t right b)))
+      ∙ plain-wrong some-bucket

@@ -6,8 +6,8 @@
 use Prim.Native.Nat.{ℕ, _≤_}
 use mathlib.Core.List.{[], _∷_}
 use Rattle.lookup.specs.Pick.{from}
-use Rattle.gnu.specs.declared.header.Layout.{Layout}
-use Rattle.gnu.specs.Table.{Table, hashed}
+use Rattle.gnu_table.specs.declared.header.Layout.{Layout}
+use Rattle.gnu_table.specs.Table.{Table, hashed}
 use Rattle.gnu_rules.specs.declared.Checked.{Checked}
 use Rattle.gnu_rules.specs.Rules.{nameReadable, valueIsHash, bloomBitsSet, bucketRight, endsAtLast, lowest, longest, verdict}
 

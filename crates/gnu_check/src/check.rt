@@ -1,29 +1,27 @@
 // The checker: the refusals, then the rules in order.
-use super::blooms::lowest_unset;
-use super::ends::longest_chain;
-use super::ends::lowest_wrong_end;
-use super::names::lowest_unreadable;
-use super::runs::lowest_wrong_bucket;
-use super::values::lowest_wrong_value;
 use endian::kinds::Class;
 use endian::kinds::Order;
 use endian::refusals::LIMIT;
 use endian::refusals::TOO_LONG;
-use gnu::header::HeaderAt;
-use gnu::header::Layout;
-use gnu::header::header;
+use gnu_ends::longest_chain;
+use gnu_ends::lowest_wrong_end;
+use gnu_names::names::lowest_unreadable;
 use gnu_rules::Checked;
 use gnu_rules::header_rules::broken_header;
+use gnu_runs::lowest_wrong_bucket;
+use gnu_table::header::HeaderAt;
+use gnu_table::header::Layout;
+use gnu_table::header::header;
+use gnu_values::blooms::lowest_unset;
+use gnu_values::values::lowest_wrong_value;
 use symbol::table::SymbolCount;
 use symbol::table::symbol_count;
 ghost use mathlib.Core.Bool.{true};
 ghost use mathlib.Core.Path.{_≡_};
 ghost use Prim.Native.Nat.{ℕ, _≤_, _<_};
-ghost use lib.ListN.{length};
-ghost use Rattle.endian.specs.Refusals.{limit};
+ghost use Rattle.gnu_table.specs.Header.{tableWith};
 ghost use Rattle.gnu_rules.specs.Rules.{valueIsHash, gnuCheck};
 ghost use Rattle.gnu_rules.specs.Rules.{check as checkOf};
-ghost use Rattle.gnu_check.specs.Passes.{tableWith};
 ghost use Rattle.gnu_check.specs.Verdicts.{Sound, fromNames, fromBuckets};
 
 // G9, G10 and the longest chain.
@@ -64,7 +62,7 @@ fn check_symbols(
     layout: Layout,
     count: u32,
 ) -> Checked
-    requires { ⌜ Sound layout count × (length (now strings) ≤ limit) ⌝ }
+    requires { ⌜ Sound layout count ⌝ }
     ensures { λ r. ⌜ r
         ≡ fromNames (tableWith class order (now (table .entry)) (now (symbols .entry)) (now (strings .entry)) layout count) ⌝ }
 {
@@ -94,7 +92,6 @@ fn check_table(
     layout: Layout,
     count: u32,
 ) -> Checked
-    requires { ⌜ length (now strings) ≤ limit ⌝ }
     ensures { λ r. ⌜ r
         ≡ checkOf (tableWith class order (now (table .entry)) (now (symbols .entry)) (now (strings .entry)) layout count) ⌝ }
 {
@@ -107,7 +104,7 @@ fn check_table(
 
 // Whether a table keeps the rules over these symbols and strings: accepted, with the longest chain,
 // or the first broken rule with its lowest symbol or bucket, or 0. Refused in this order: a part that
-// is too long; as `gnu::header::header`. Linear in the table, the symbols and what the names add up to.
+// is too long; as `gnu_table::header::header`. Linear in the table, the symbols and what the names add up to.
 pub fn check(class: Class, order: Order, table: &[u8], symbols: &[u8], strings: &[u8]) -> Checked
     ensures { λ r. ⌜ r ≡ gnuCheck class order (now (table .entry)) (now (symbols .entry)) (now (strings .entry)) ⌝ }
 {

@@ -31,8 +31,8 @@ use Rattle.lookup.specs.Pick.{from, firstOf}
 use Rattle.lookup.specs.Wanted.{Parts, Asked, nameOf, symbolIndex, wanted, wantedIn, answerOf}
 use Rattle.lookup.proofs.Distinct.{wanted-named, wanted-fits}
 use Rattle.lookup.proofs.Picking.{from-all, none-firstOf, firstOf-lowest, Lowest, by-test}
-use Rattle.gnu.specs.Table.{hashed}
-use Rattle.gnu.specs.Layout.{fault}
+use Rattle.gnu_table.specs.Table.{hashed}
+use Rattle.gnu_table.specs.Layout.{fault}
 use Rattle.gnu.specs.Find.{gnuTable, gnuFind}
 use Rattle.gnu.proofs.Theorems.{find-one}
 use Rattle.gnu_rules.specs.declared.Checked.the-variants.{Accepted, Refused as Checked·Refused}

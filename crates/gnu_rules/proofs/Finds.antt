@@ -17,7 +17,8 @@ use Rattle.lookup.specs.declared.Answer.the-variants.{Missing}
 use Rattle.lookup.specs.Pick.{from, firstOf, upTo}
 use Rattle.lookup.specs.Wanted.{answerOf, walk}
 use Rattle.lookup.proofs.Picking.{all-map, all-from, all-select, firstOf-none, firstOf-select, firstOf-cong, length-upTo, upTo-from, largest-le, by-test, and-left, and-right, beq-eq, test-ext}
-use Rattle.gnu.specs.Table.{Table, hashed, valueOf, odd, sameButLow, bloomFirst, bloomSecond, chain, starts, bloomFilter, startOf, walkAt, lookup}
+use Rattle.gnu_table.specs.Table.{Table, hashed, valueOf, odd, sameButLow, bloomFirst, bloomSecond, bloomFilter}
+use Rattle.gnu.specs.Lookup.{chain, starts, startOf, walkAt, lookup}
 use Rattle.gnu_rules.specs.Rules.{hashOf, inBucket, members, holds, longest}
 use Rattle.gnu_rules.proofs.Kept.{Rules}
 use Rattle.gnu_rules.proofs.Members.{holds-run, inside, last, not-last}

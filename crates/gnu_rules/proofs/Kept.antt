@@ -15,7 +15,7 @@ use borrow.Author.Tests.{leb-true, eqb-true}
 use Rattle.strings.proofs.Meaning.{false-true}
 use Rattle.lookup.specs.Pick.{from, firstOf, isNone}
 use Rattle.lookup.proofs.Picking.{All, all-map, from-all, none-firstOf, firstOf-passes, and-left, and-right, not-none}
-use Rattle.gnu.specs.Table.{Table, hashed}
+use Rattle.gnu_table.specs.Table.{Table, hashed}
 use Rattle.gnu_rules.specs.declared.Checked.the-variants.{Accepted}
 use Rattle.gnu_rules.specs.Rules.{verdict, longest, check, findings, whole, lowest, powerOfTwo, baseWithin, bloomCountPower, someBucket, shiftWithin, enoughValues, nameReadable, valueIsHash, bloomBitsSet, bucketRight, endsAtLast}
 

@@ -17,7 +17,7 @@ use Rattle.strings.specs.Strings.{same}
 use Rattle.strings.proofs.Meaning.{same-refl, same-true}
 use Rattle.lookup.specs.Pick.{from}
 use Rattle.lookup.proofs.Picking.{All, all-from, from-all, all-select, select-all, firstOf-none, firstOf-hit, by-test, and-left, and-right}
-use Rattle.gnu.specs.Table.{Table, hashed}
+use Rattle.gnu_table.specs.Table.{Table, hashed}
 use Rattle.gnu_rules.specs.Rules.{bucketOf, inBucket, members, isLast, holds}
 
 pub holds-run : (v m : ℕ) (ms : List ℕ) → holds v (m ∷ ms) ≡ true → m ∷ ms ≡ from v (suc (length ms))

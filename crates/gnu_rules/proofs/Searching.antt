@@ -18,12 +18,11 @@ use Rattle.gnu_rules.specs.Search.{firstFrom}
 
 pub record Searching (p : ℕ → Bool) (a e i : ℕ) : Type 0 where
   pub low : a ≤ i
-  pub high : i ≤ e
   pub same : firstFrom p i e ≡ firstFrom p a e
 
 module _ (p : ℕ → Bool) (a e : ℕ) where
-  pub searching-start : a ≤ e → Searching p a e a
-  searching-start within = record { low = le-refl a; high = within; same = refl }
+  pub searching-start : Searching p a e a
+  searching-start = record { low = le-refl a; same = refl }
 
   module _ (i : ℕ) (so-far : Searching p a e i) where
     pub searching-next : i < e → p i ≡ false → Searching p a e (i + 1)
@@ -32,7 +31,7 @@ module _ (p : ℕ → Bool) (a e : ℕ) where
         let one : e - i ≡ suc (e - (i + 1)) = omega arith in
         let step : firstFrom p i e ≡ firstFrom p (i + 1) e = rw (one, fails, add-one i) in
         let low = so-far .low in
-        record { low = omega arith; high = omega arith; same = sym step ∙ so-far .same }
+        record { low = omega arith; same = sym step ∙ so-far .same }
 
     pub searching-here : i < e → p i ≡ true → i ≡ firstFrom p a e
     unfolding firstFrom

@@ -7,8 +7,8 @@ use mathlib.Core.Bool.{Bool, cond}
 use mathlib.Core.List.{[]}
 use Rattle.endian.specs.declared.kinds.Class.the-variants.{Elf32}
 use Rattle.endian.specs.declared.kinds.Order.the-variants.{Little}
-use Rattle.gnu.specs.declared.header.Layout.{Layout}
-use Rattle.gnu.specs.Header.{tableAt}
+use Rattle.gnu_table.specs.declared.header.Layout.{Layout}
+use Rattle.gnu_table.specs.Header.{tableAt}
 use Rattle.gnu_rules.specs.Rules.{baseWithin, bloomCountPower, someBucket, shiftWithin, enoughValues}
 
 abbrev pub firstBroken : (g1 g2 g3 g4 g5 : Bool) → ℕ

@@ -28,8 +28,8 @@ use Rattle.endian.specs.Refusals.{anyLong, tooLong}
 use Rattle.strings.specs.Strings.{same}
 use Rattle.name_hash.specs.Hash.{gnuHash}
 use Rattle.lookup.specs.Pick.{from, select, firstOf, largest, isNone}
-use Rattle.gnu.specs.Table.{Table, hashed, valueOf, odd, sameButLow, bloomFirst, bloomSecond}
-use Rattle.gnu.specs.Layout.{fault, tableOf}
+use Rattle.gnu_table.specs.Table.{Table, hashed, valueOf, odd, sameButLow, bloomFirst, bloomSecond}
+use Rattle.gnu_table.specs.Layout.{fault, tableOf}
 use Rattle.gnu_rules.specs.declared.Checked.{Checked}
 use Rattle.gnu_rules.specs.declared.Checked.the-variants.{Accepted, Broken, Refused}
 

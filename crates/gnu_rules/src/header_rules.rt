@@ -1,5 +1,5 @@
 // The rules of the header: G1 to G5.
-use gnu::header::Layout;
+use gnu_table::header::Layout;
 ghost use mathlib.Core.Path.{_≡_};
 ghost use Rattle.gnu_rules.specs.Rules.{powerOfTwo};
 ghost use Rattle.gnu_rules.specs.HeaderRules.{brokenHeader};

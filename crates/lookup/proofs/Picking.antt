@@ -1,7 +1,7 @@
 -- Laws of `Pick`, for both hash tables.
 --     by-test, and-left, and-right, not-none, beq-eq, test-ext, either    tests and sums taken apart
 --     All, all-map, all-from, from-all              every element of a list; of a run of numbers, each of them
---     length-from, from-append                      a run of numbers
+--     length-from, from-append, from-cons           a run of numbers
 --     largest-le, largest-upper                     the largest is no less than each, and no more than a bound of all
 --     all-select, select-all, select-append, select-none, select-front    what was selected
 --     firstOf-none, none-firstOf, firstOf-passes, firstOf-hit, firstOf-select, firstOf-cong    what was found, and what that says
@@ -13,6 +13,7 @@ use mathlib.Core.Bool.{Bool, true, false, cond, not, _&&_, _||_, Bool·beq, true
 use mathlib.Core.List.{List, [], _∷_, map, _++_}
 use mathlib.Core.Option.{Option, some, none, Option·some-ne-none, Option·none-ne-some}
 use Prim.Native.Nat.{ℕ, zero, suc, _+_, _-_, _≤_, _<_, max}
+use native.Mathlib.Numerals.{add-one}
 use native.Mathlib.Omega.{arith}
 use native.Mathlib.Nat.{add-zero, add-suc, le-refl, suc-add, zero-add, eq-or-lt-of-le}
 use mathlib.Core.Logic.{_⊎_, inl, inr, ⊎-elim}
@@ -74,6 +75,11 @@ from-all P a (suc k) h i lo hi =
 pub length-from : (a k : ℕ) → length (from a k) ≡ k
 length-from a zero = refl
 length-from a (suc k) = ap suc (length-from (suc a) k)
+
+pub from-cons : (i e : ℕ) → i < e → from i (e - i) ≡ i ∷ from (i + 1) (e - (i + 1))
+from-cons i e more =
+    let s : e - i ≡ suc (e - (i + 1)) = omega arith in
+    rw (s, add-one i)
 
 pub largest-le : (f : ℕ → ℕ) (a k b : ℕ) → a ≤ b → b < a + k → f b ≤ largest (map f (from a k))
 largest-le f a zero b lo hi = absurd (omega arith)

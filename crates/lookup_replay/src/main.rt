@@ -6,7 +6,7 @@ use endian::words::u8_at;
 use endian::words::u32_at;
 use export::kinds::class_of;
 use export::kinds::order_of;
-use gnu::length::TableLength;
+use gnu_length::TableLength;
 use libc::STDIN_FILENO;
 use libc::STDOUT_FILENO;
 use lookup::Answer;
@@ -186,7 +186,7 @@ fn tables_agree(record: &[u8], store: &[u32]) -> bool {
         if !same_answer(record, gnu_found(record, class, order, store, need)) {
             return false;
         }
-        return same_length(record, gnu::length::table_length(class, order, table));
+        return same_length(record, gnu_length::table_length(class, order, table));
     }
     if !same_answer(record, sysv_found(record, class, order, store, need)) {
         return false;

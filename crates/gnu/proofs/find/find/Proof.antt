@@ -5,8 +5,8 @@ use mathlib.Core.Bool.{Bool, true, false}
 use Rattle.symbol.specs.declared.table.SymbolCount.{SymbolCount}
 use Rattle.symbol.specs.Table.{symbolCount}
 use Rattle.lookup.specs.Wanted.{Parts, Asked}
-use Rattle.gnu.specs.declared.header.HeaderAt.{HeaderAt}
-use Rattle.gnu.specs.Header.{gnuHeader}
+use Rattle.gnu_table.specs.declared.header.HeaderAt.{HeaderAt}
+use Rattle.gnu_table.specs.Header.{gnuHeader}
 use Rattle.gnu.specs.Find.{gnuFind}
 use Rattle.gnu.proofs.Finds.{findBy, lookIn, find-by}
 use Rattle.gnu.proofs.find.find.Statement.{statement}

@@ -6,8 +6,8 @@ use mathlib.Core.Path.{_≡_, sym, _∙_, subst}
 use mathlib.Core.Bool.{Bool}
 use native.Mathlib.Omega.{arith}
 use Rattle.lookup.specs.Wanted.{wanted}
-use Rattle.gnu.specs.Table.{Table, bloomFilter}
-use Rattle.gnu.specs.Header.{tableAt}
+use Rattle.gnu_table.specs.Table.{Table, bloomFilter}
+use Rattle.gnu_table.specs.Header.{tableAt}
 use Rattle.gnu.specs.Walk.{walkPairs}
 use Rattle.gnu.proofs.Finds.{filter-any}
 use Rattle.gnu.proofs.Lookups.{InRange, start-range, lookup-stops, lookup-refuses, lookup-nowhere, lookup-walks}

@@ -3,7 +3,7 @@ use borrow.Author.Needs.{needs}
 use mathlib.Core.Path.{sym}
 use native.Mathlib.Omega.{arith}
 use native.Mathlib.Nat.{mod-le}
-use Rattle.gnu.specs.Header.{tableAt}
+use Rattle.gnu_table.specs.Header.{tableAt}
 use Rattle.gnu.proofs.Lookups.{start-none, start-past, start-below, start-values, start-is}
 use Rattle.gnu.proofs.start.start_of.Statement.{statement}
 use Rattle.gnu.proofs.start.start_of.Tie as tie

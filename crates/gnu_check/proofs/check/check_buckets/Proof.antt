@@ -3,12 +3,12 @@ use mathlib.Core.Path.{_≡_, sym, ap, _∙_}
 use mathlib.Core.Option.{none}
 use borrow.Author.Needs.{needs}
 use Rattle.lookup.specs.Pick.{from}
-use Rattle.gnu.specs.Table.{Table}
+use Rattle.gnu_table.specs.Table.{Table}
 use Rattle.gnu_rules.specs.declared.Checked.the-variants.{Accepted}
 use Rattle.gnu_rules.specs.Rules.{bucketRight, lowest}
-use Rattle.gnu_check.specs.Passes.{tableWith}
-use Rattle.gnu_check.specs.Runs.{endsRun}
-use Rattle.gnu_check.proofs.Judged.{lowest-at, lowest-nowhere, wrong-bucket, right-buckets, from-buckets-10, from-buckets-accepted}
+use Rattle.gnu_table.specs.Header.{tableWith}
+use Rattle.gnu_ends.specs.Ends.{endsRun}
+use Rattle.gnu_check.proofs.Judged.{lowest-at, lowest-nowhere, wrong-bucket, right-buckets, ends-search, from-buckets-10, from-buckets-accepted}
 use Rattle.gnu_check.proofs.check.check_buckets.Statement.{statement}
 use Rattle.gnu_check.proofs.check.check_buckets.Tie as tie
 
@@ -24,7 +24,7 @@ nine : (c : tie.Else1) → let t = table-of (c .before .before .before .before .
 nine c =
     let start = c .before .before .before .before .before .before in
     let called = c .before .before .lowest-wrong-bucket in
-    right-buckets (table-of start) (start .pre .0) (called .result) (called .ensures) (c .if1 .left)
+    right-buckets (table-of start) (start .pre .0) (start .pre .2) (called .result) (called .ensures) (c .if1 .left)
 
 lowest-wrong-bucket-requires : tie.Need-lowest-wrong-bucket-requires
 lowest-wrong-bucket-requires c κs = search needs
@@ -33,7 +33,7 @@ returns : tie.Need-returns
 returns c =
     let start = c .before .before .before .before .before .before in
     let called = c .before .before .lowest-wrong-bucket in
-    sym (wrong-bucket (table-of start) (start .pre .0) (called .result) (called .ensures) (c .if1 .taken))
+    sym (wrong-bucket (table-of start) (start .pre .0) (start .pre .2) (called .result) (called .ensures) (c .if1 .taken))
 
 lowest-wrong-end-requires : tie.Need-lowest-wrong-end-requires
 lowest-wrong-end-requires c κs = search needs
@@ -44,7 +44,7 @@ returns-2 c =
     let t = table-of start in
     let called = c .before .lowest-wrong-end in
     sym (from-buckets-10 t (start .pre .0) (start .pre .1) (nine (c .before .before)) (called .result)
-    (lowest-at t (start .pre .1) (endsRun t) (called .result) (called .ensures) (c .if2 .taken)))
+    (lowest-at t (start .pre .1) (endsRun t) (called .result) (ends-search t (start .pre .0) (called .result) (called .ensures)) (c .if2 .taken)))
 
 longest-chain-requires : tie.Need-longest-chain-requires
 longest-chain-requires c κs = search needs
@@ -56,7 +56,7 @@ returns-3 c =
     let called = c .before .before .lowest-wrong-end in
     ap Accepted (c .longest-chain .ensures)
     ∙ sym (from-buckets-accepted t (start .pre .0) (start .pre .1) (nine (c .before .before .before))
-    (lowest-nowhere t (start .pre .1) (endsRun t) (called .result) (called .ensures) (c .before .if2 .left)))
+    (lowest-nowhere t (start .pre .1) (endsRun t) (called .result) (ends-search t (start .pre .0) (called .result) (called .ensures)) (c .before .if2 .left)))
 
 pub check-buckets-spec : {M : Type 1} → statement M
 check-buckets-spec =

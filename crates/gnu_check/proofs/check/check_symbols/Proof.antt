@@ -2,10 +2,10 @@
 use mathlib.Core.Path.{_≡_, sym, _∙_}
 use mathlib.Core.Option.{none}
 use borrow.Author.Needs.{needs}
-use Rattle.gnu.specs.Table.{Table, hashed}
+use Rattle.gnu_table.specs.Table.{Table, hashed}
 use Rattle.gnu_rules.specs.Rules.{nameReadable, valueIsHash, bloomBitsSet, lowest}
-use Rattle.gnu_check.specs.Passes.{tableWith}
-use Rattle.gnu_check.proofs.Judged.{lowest-at, lowest-nowhere, all-kept, from-names-6, from-names-7, from-names-8, from-names-kept}
+use Rattle.gnu_table.specs.Header.{tableWith}
+use Rattle.gnu_check.proofs.Judged.{lowest-at, lowest-nowhere, bits-search, all-kept, from-names-6, from-names-7, from-names-8, from-names-kept}
 use Rattle.gnu_check.proofs.check.check_symbols.Statement.{statement}
 use Rattle.gnu_check.proofs.check.check_symbols.Tie as tie
 
@@ -21,7 +21,7 @@ six : (c : tie.Else1) → lowest (nameReadable (table-of (c .before .before .bef
 six c =
     let start = c .before .before .before .before .before in
     let t = table-of start in
-    lowest-nowhere t (start .pre .0 .base) (nameReadable t) (c .before .lowest-unreadable .result)
+    lowest-nowhere t (start .pre .base) (nameReadable t) (c .before .lowest-unreadable .result)
     (c .before .lowest-unreadable .ensures) (c .if1 .left)
 
 seven : (c : tie.Else2) → lowest (valueIsHash (table-of (c .before .before .before .before .before .before .before)))
@@ -29,7 +29,7 @@ seven : (c : tie.Else2) → lowest (valueIsHash (table-of (c .before .before .be
 seven c =
     let start = c .before .before .before .before .before .before .before in
     let t = table-of start in
-    lowest-nowhere t (start .pre .0 .base) (valueIsHash t) (c .before .lowest-wrong-value .result)
+    lowest-nowhere t (start .pre .base) (valueIsHash t) (c .before .lowest-wrong-value .result)
     (c .before .lowest-wrong-value .ensures) (c .if2 .left)
 
 lowest-unreadable-requires : tie.Need-lowest-unreadable-requires
@@ -39,7 +39,7 @@ returns : tie.Need-returns
 returns c =
     let start = c .before .before .before .before .before in
     let t = table-of start in
-    sym (from-names-6 t _ (lowest-at t (start .pre .0 .base) (nameReadable t) (c .before .lowest-unreadable .result)
+    sym (from-names-6 t _ (lowest-at t (start .pre .base) (nameReadable t) (c .before .lowest-unreadable .result)
     (c .before .lowest-unreadable .ensures) (c .if1 .taken)))
 
 lowest-wrong-value-requires : tie.Need-lowest-wrong-value-requires
@@ -49,7 +49,7 @@ returns-2 : tie.Need-returns-2
 returns-2 c =
     let start = c .before .before .before .before .before .before .before in
     let t = table-of start in
-    sym (from-names-7 t (six (c .before .before)) _ (lowest-at t (start .pre .0 .base) (valueIsHash t)
+    sym (from-names-7 t (six (c .before .before)) _ (lowest-at t (start .pre .base) (valueIsHash t)
     (c .before .lowest-wrong-value .result) (c .before .lowest-wrong-value .ensures) (c .if2 .taken)))
 
 lowest-unset-requires : tie.Need-lowest-unset-requires
@@ -60,16 +60,17 @@ returns-3 c =
     let start = c .before .before .before .before .before .before .before .before .before in
     let t = table-of start in
     sym (from-names-8 t (six (c .before .before .before .before)) (seven (c .before .before)) _
-    (lowest-at t (start .pre .0 .base) (bloomBitsSet t) (c .before .lowest-unset .result)
-    (c .before .lowest-unset .ensures) (c .if3 .taken)))
+    (lowest-at t (start .pre .base) (bloomBitsSet t) (c .before .lowest-unset .result)
+    (bits-search t (start .pre .base) (start .pre .blooms) (start .pre .shift) _ (c .before .lowest-unset .ensures))
+    (c .if3 .taken)))
 
 check-buckets-requires : tie.Need-check-buckets-requires
 check-buckets-requires c κs =
     let start = c .before .before .before .before .before .before .before .before .before in
     let t = table-of start in (
-      start .pre .0 .buckets,
-      start .pre .0 .base,
-      all-kept t (start .pre .0 .base) (valueIsHash t) (seven (c .before .before)),
+      start .pre .buckets,
+      start .pre .base,
+      all-kept t (start .pre .base) (valueIsHash t) (seven (c .before .before)),
     )
 
 returns-4 : tie.Need-returns-4
@@ -78,8 +79,9 @@ returns-4 c =
     let t = table-of start in
     c .check-buckets .ensures
     ∙ sym (from-names-kept t (six (c .before .before .before .before .before)) (seven (c .before .before .before))
-    (lowest-nowhere t (start .pre .0 .base) (bloomBitsSet t) (c .before .before .lowest-unset .result)
-    (c .before .before .lowest-unset .ensures) (c .before .if3 .left)))
+    (lowest-nowhere t (start .pre .base) (bloomBitsSet t) (c .before .before .lowest-unset .result)
+    (bits-search t (start .pre .base) (start .pre .blooms) (start .pre .shift) _ (c .before .before .lowest-unset .ensures))
+    (c .before .if3 .left)))
 
 pub check-symbols-spec : {M : Type 1} → statement M
 check-symbols-spec =

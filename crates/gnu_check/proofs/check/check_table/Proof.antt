@@ -20,7 +20,7 @@ check-symbols-requires : tie.Need-check-symbols-requires
 check-symbols-requires c κs =
     let start = c .before .before .before .before .before in
     let called = c .before .broken-header in
-    (header-sound (start .args .layout) (start .args .count) (called .result) (called .ensures) (c .if1 .left), start .pre)
+    header-sound (start .args .layout) (start .args .count) (called .result) (called .ensures) (c .if1 .left)
 
 returns-2 : tie.Need-returns-2
 returns-2 c =

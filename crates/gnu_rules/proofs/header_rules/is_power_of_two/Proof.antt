@@ -17,7 +17,7 @@ abbrev μ-loop : tie.MeasureT-loop
 μ-loop n k₀ k = 32 - k
 
 loop-holds : tie.Need-loop-holds Inv-loop μ-loop
-loop-holds c = searching-start _ _ _ (omega arith)
+loop-holds c = searching-start _ _ _
 
 shl-if1 : tie.Need-shl-if1 Inv-loop μ-loop
 shl-if1 c = search needs

@@ -1,0 +1,2 @@
+-- `Chaining`: the pass for the longest chain, turn by turn.
+mod Chaining

@@ -1,0 +1,2 @@
+-- `Lengths`: the length of the symbol table, step by step.
+mod Lengths

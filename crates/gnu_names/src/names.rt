@@ -1,0 +1,59 @@
+// G6: each hashed symbol's name can be read.
+use endian::kinds::Class;
+use endian::kinds::Order;
+use endian::refusals::LIMIT;
+use strings::after_last_zero;
+use symbol::table::SymbolAt;
+use symbol::table::SymbolIndex;
+use symbol::table::symbol_at;
+ghost use mathlib.Core.Bool.{not};
+ghost use mathlib.Core.Path.{_≡_};
+ghost use Rattle.symbol.specs.Table.{symbolAt};
+ghost use Rattle.lookup.specs.Wanted.{symbolIndex};
+ghost use Rattle.gnu_rules.specs.Search.{firstFrom};
+ghost use Rattle.gnu_names.specs.Names.{readableIn, readableEnd, startsBelow};
+
+// The place before which a string that can be read starts: after the last zero, or 0 in strings
+// that are too long.
+fn readable_end(strings: &[u8]) -> usize
+    ensures { λ r. ⌜ r ≡ readableEnd (now (strings .entry)) ⌝ }
+{
+    if LIMIT < strings.len() {
+        return 0;
+    }
+    after_last_zero(strings)
+}
+
+// Whether there is such a symbol and its name starts below a place.
+fn starts_below(class: Class, order: Order, symbols: &[u8], end: usize, i: u32) -> bool
+    ensures { λ r. ⌜ r ≡ startsBelow end (symbolAt class order (now (symbols .entry)) (symbolIndex i)) ⌝ }
+{
+    match symbol_at(class, order, symbols, SymbolIndex(i)) {
+        SymbolAt::At(entry) => (entry.name as usize) < end,
+        SymbolAt::Refused(_) => false,
+    }
+}
+
+// The lowest symbol from `base` on whose name cannot be read, or `count`. The strings' last zero is
+// looked for once: a name can be read exactly if it starts before the end of that string.
+pub fn lowest_unreadable(
+    class: Class,
+    order: Order,
+    symbols: &[u8],
+    strings: &[u8],
+    base: u32,
+    count: u32,
+) -> u32
+    ensures { λ r. ⌜ r
+        ≡ firstFrom (λ i. not (readableIn class order (now (symbols .entry)) (now (strings .entry)) i)) base count ⌝ }
+{
+    let end = readable_end(strings);
+    let mut i = base;
+    while i < count {
+        if !starts_below(class, order, symbols, end, i) {
+            return i;
+        }
+        i += 1;
+    }
+    count
+}

@@ -1,0 +1,37 @@
+-- The header of a table, a law for each answer, under the tests before it. Assumes nothing.
+--     header-long, header-short, header-bloom, header-buckets, header-at    what `gnuHeader` is
+use Prim.Native.Nat.{ℕ, _≤_, _<_}
+use mathlib.Core.Path.{_≡_}
+use mathlib.Core.List.{List}
+use borrow.Author.Tests.{lt-ltb, le-ltb}
+use lib.ListN.{length}
+use Rattle.endian.specs.declared.kinds.Class.{Class}
+use Rattle.endian.specs.declared.kinds.Order.{Order}
+use Rattle.endian.specs.Refusals.{limit, tooLong, badGnuHeader, badGnuBloom, badGnuBuckets}
+use Rattle.gnu_table.specs.declared.header.HeaderAt.the-variants.{At, Refused}
+use Rattle.gnu_table.specs.Layout.{bucketsAt, valuesAt}
+use Rattle.gnu_table.specs.Header.{layoutOf, gnuHeader}
+
+module _ (class : Class) (order : Order) (table : List ℕ) where
+  pub header-long : limit < length table → gnuHeader class order table ≡ Refused tooLong
+  unfolding gnuHeader
+  header-long long = rw (lt-ltb _ _ long)
+
+  module _ (short : length table ≤ limit) where
+    pub header-short : length table < 16 → gnuHeader class order table ≡ Refused badGnuHeader
+    unfolding gnuHeader
+    header-short less = rw (le-ltb _ _ short, lt-ltb _ _ less)
+
+    module _ (whole : 16 ≤ length table) where
+      pub header-bloom : length table < bucketsAt class order table → gnuHeader class order table ≡ Refused badGnuBloom
+      unfolding gnuHeader
+      header-bloom less = rw (le-ltb _ _ short, le-ltb _ _ whole, lt-ltb _ _ less)
+
+      module _ (blooms : bucketsAt class order table ≤ length table) where
+        pub header-buckets : length table < valuesAt class order table → gnuHeader class order table ≡ Refused badGnuBuckets
+        unfolding gnuHeader
+        header-buckets less = rw (le-ltb _ _ short, le-ltb _ _ whole, le-ltb _ _ blooms, lt-ltb _ _ less)
+
+        pub header-at : valuesAt class order table ≤ length table → gnuHeader class order table ≡ At (layoutOf class order table)
+        unfolding gnuHeader
+        header-at buckets = rw (le-ltb _ _ short, le-ltb _ _ whole, le-ltb _ _ blooms, le-ltb _ _ buckets)
