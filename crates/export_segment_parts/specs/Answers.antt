@@ -11,14 +11,14 @@
 use Prim.Native.Nat.{ℕ}
 use Rattle.note.specs.Notes.{alignSize}
 use Rattle.segment.specs.declared.entry.Segment.{Segment}
-use Rattle.segment_parts.specs.declared.part.SegmentData.{SegmentData}
-use Rattle.segment_parts.specs.declared.part.SegmentData.the-variants.{At as Data·At, Refused as Data·Refused}
-use Rattle.segment_parts.specs.declared.part.SegmentDataRange.{SegmentDataRange}
-use Rattle.segment_parts.specs.declared.part.SegmentDataRange.the-variants.{At as Range·At, NotHere, Refused as Range·Refused}
-use Rattle.segment_parts.specs.declared.dynamic.SegmentDynamic.{SegmentDynamic}
-use Rattle.segment_parts.specs.declared.dynamic.SegmentDynamic.the-variants.{At as Dynamic·At, NotThisKind as Dynamic·NotThisKind, Refused as Dynamic·Refused}
-use Rattle.segment_parts.specs.declared.dynamic.DynamicEntryAt.{DynamicEntryAt}
-use Rattle.segment_parts.specs.declared.dynamic.DynamicEntryAt.the-variants.{At as Entry·At, NoEntry, Refused as Entry·Refused}
+use Rattle.segment_data.specs.declared.part.SegmentData.{SegmentData}
+use Rattle.segment_data.specs.declared.part.SegmentData.the-variants.{At as Data·At, Refused as Data·Refused}
+use Rattle.segment_data.specs.declared.part.SegmentDataRange.{SegmentDataRange}
+use Rattle.segment_data.specs.declared.part.SegmentDataRange.the-variants.{At as Range·At, NotHere, Refused as Range·Refused}
+use Rattle.segment_dynamic.specs.declared.dynamic.SegmentDynamic.{SegmentDynamic}
+use Rattle.segment_dynamic.specs.declared.dynamic.SegmentDynamic.the-variants.{At as Dynamic·At, NotThisKind as Dynamic·NotThisKind, Refused as Dynamic·Refused}
+use Rattle.segment_dynamic.specs.declared.dynamic.DynamicEntryAt.{DynamicEntryAt}
+use Rattle.segment_dynamic.specs.declared.dynamic.DynamicEntryAt.the-variants.{At as Entry·At, NoEntry, Refused as Entry·Refused}
 use Rattle.segment_parts.specs.declared.interpreter.SegmentInterpreter.{SegmentInterpreter}
 use Rattle.segment_parts.specs.declared.interpreter.SegmentInterpreter.the-variants.{At as Interpreter·At, NotThisKind as Interpreter·NotThisKind, Refused as Interpreter·Refused}
 use Rattle.segment_parts.specs.declared.notes.SegmentNotes.{SegmentNotes}

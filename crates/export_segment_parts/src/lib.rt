@@ -5,18 +5,18 @@ use export::kinds::class_of;
 use export::kinds::order_of;
 use note::reader::Align;
 use segment::entry::Segment;
-use segment_parts::dynamic::DynamicEntryAt;
-use segment_parts::dynamic::SegmentDynamic;
+use segment_data::part::SegmentData;
+use segment_data::part::SegmentDataRange;
+use segment_dynamic::dynamic::DynamicEntryAt;
+use segment_dynamic::dynamic::SegmentDynamic;
 use segment_parts::interpreter::SegmentInterpreter;
 use segment_parts::notes::SegmentNotes;
-use segment_parts::part::SegmentData;
-use segment_parts::part::SegmentDataRange;
 ghost use mathlib.Core.Path.{_≡_};
 ghost use Rattle.endian.specs.declared.kinds.Order.the-variants.{Little};
 ghost use Rattle.note.specs.Notes.{alignSize};
-ghost use Rattle.segment_parts.specs.Dynamic.{segmentDynamic, dynamicEntry};
+ghost use Rattle.segment_dynamic.specs.Dynamic.{segmentDynamic, dynamicEntry};
 ghost use Rattle.segment_parts.specs.Interpreter.{segmentInterpreter};
-ghost use Rattle.segment_parts.specs.Part.{segmentData, segmentDataRange};
+ghost use Rattle.segment_data.specs.Part.{segmentData, segmentDataRange};
 ghost use Rattle.segment_parts.specs.SegmentNotes.{segmentNotes};
 ghost use Rattle.export.specs.Answers.{classOf, orderOf};
 ghost use Rattle.export_segment_parts.specs.Answers.{entry, dataAnswer, noPart, part, rangeAnswer, interpreterAnswer, dynamicAnswer, notesAnswer, entryAnswer};
@@ -62,7 +62,7 @@ fn entry_of(kind: u32, offset: u64, vaddr: u64, filesz: u64, align: u64) -> Segm
 pub extern "C" fn fetulombo_segment_data(file: &[u8], offset: u64, filesz: u64) -> PlaceAnswer
     ensures { λ r. ⌜ r ≡ dataAnswer (segmentData (now (file .entry)) (entry 0 offset 0 filesz 0)) ⌝ }
 {
-    match segment_parts::part::segment_data(file, entry_of(0, offset, 0, filesz, 0)) {
+    match segment_data::part::segment_data(file, entry_of(0, offset, 0, filesz, 0)) {
         SegmentData::At { start, len } => PlaceAnswer {
             refusal: 0,
             start: start as u64,
@@ -113,7 +113,7 @@ pub extern "C" fn fetulombo_segment_data_range(
     ensures { λ r. ⌜ r ≡ rangeAnswer (segmentDataRange (now (file .entry)) (entry 0 offset vaddr filesz 0) address size) ⌝ }
 {
     let segment = entry_of(0, offset, vaddr, filesz, 0);
-    match segment_parts::part::segment_data_range(file, segment, address, size) {
+    match segment_data::part::segment_data_range(file, segment, address, size) {
         SegmentDataRange::At { start, len } => part_answer(start, len, 0),
         SegmentDataRange::NotHere => no_part(0),
         SegmentDataRange::Refused(refusal) => no_part(refusal.0),
@@ -132,7 +132,7 @@ pub extern "C" fn fetulombo_segment_dynamic(
     ensures { λ r. ⌜ r ≡ dynamicAnswer (segmentDynamic (classOf class) (now (file .entry)) (entry kind offset 0 filesz 0)) ⌝ }
 {
     let segment = entry_of(kind, offset, 0, filesz, 0);
-    match segment_parts::dynamic::segment_dynamic(class_of(class), file, segment) {
+    match segment_dynamic::dynamic::segment_dynamic(class_of(class), file, segment) {
         SegmentDynamic::At { start, len, count } => part_answer(start, len, count as u64),
         SegmentDynamic::NotThisKind => no_part(0),
         SegmentDynamic::Refused(refusal) => no_part(refusal.0),
@@ -149,7 +149,7 @@ pub extern "C" fn fetulombo_segment_dynamic_entry(
 ) -> DynamicAnswer
     ensures { λ r. ⌜ r ≡ entryAnswer (dynamicEntry (classOf class) (orderOf order) (now (bytes .entry)) number) ⌝ }
 {
-    match segment_parts::dynamic::dynamic_entry(class_of(class), order_of(order), bytes, number) {
+    match segment_dynamic::dynamic::dynamic_entry(class_of(class), order_of(order), bytes, number) {
         DynamicEntryAt::At(entry) => DynamicAnswer {
             refusal: 0,
             found: 1,

@@ -11,10 +11,10 @@ use lib.Dec.{leb, ltb}
 use lib.ListN.{length}
 use Rattle.endian.specs.Refusals.{limit, tooLong, badSegmentData}
 use Rattle.segment.specs.declared.entry.Segment.{Segment}
-use Rattle.segment_parts.specs.declared.part.SegmentData.{SegmentData}
-use Rattle.segment_parts.specs.declared.part.SegmentData.the-variants.{At, Refused}
-use Rattle.segment_parts.specs.declared.part.SegmentDataRange.{SegmentDataRange}
-use Rattle.segment_parts.specs.declared.part.SegmentDataRange.the-variants.{At as Range·At, NotHere, Refused as Range·Refused}
+use Rattle.segment_data.specs.declared.part.SegmentData.{SegmentData}
+use Rattle.segment_data.specs.declared.part.SegmentData.the-variants.{At, Refused}
+use Rattle.segment_data.specs.declared.part.SegmentDataRange.{SegmentDataRange}
+use Rattle.segment_data.specs.declared.part.SegmentDataRange.the-variants.{At as Range·At, NotHere, Refused as Range·Refused}
 
 -- an offset no more than the length, also for filesz 0
 unfoldable pub isInFile : List ℕ → Segment → Bool

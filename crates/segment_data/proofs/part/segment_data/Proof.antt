@@ -1,9 +1,9 @@
--- `segment_parts::part::segment_data` meets its contract. Each answer is the one that its tests pick. Assumes nothing.
+-- `segment_data::part::segment_data` meets its contract. Each answer is the one that its tests pick. Assumes nothing.
 use mathlib.Core.Path.{sym, _∙_}
 use borrow.Author.Tests.{lt-ltb, le-ltb, not-true, not-false}
 use borrow.Author.Needs.{needs}
-use Rattle.segment_parts.proofs.part.segment_data.Statement.{statement}
-use Rattle.segment_parts.proofs.part.segment_data.Tie as tie
+use Rattle.segment_data.proofs.part.segment_data.Statement.{statement}
+use Rattle.segment_data.proofs.part.segment_data.Tie as tie
 
 returns : tie.Need-returns
 returns c = simp (lt-ltb _ _ (c .if1 .taken))

@@ -14,13 +14,13 @@ use Rattle.endian.specs.declared.kinds.Class.the-variants.{Elf32, Elf64}
 use Rattle.endian.specs.declared.kinds.Order.{Order}
 use Rattle.endian.specs.Refusals.{limit, tooLong, badDynamicPlace}
 use Rattle.endian.specs.Word.{Field, fieldAt}
-use Rattle.segment_parts.specs.Part.{isInFile}
+use Rattle.segment_data.specs.Part.{isInFile}
 use Rattle.segment.specs.declared.entry.Segment.{Segment}
-use Rattle.segment_parts.specs.declared.dynamic.SegmentDynamic.{SegmentDynamic}
-use Rattle.segment_parts.specs.declared.dynamic.SegmentDynamic.the-variants.{At, NotThisKind, Refused}
-use Rattle.segment_parts.specs.declared.dynamic.DynamicEntry.{DynamicEntry}
-use Rattle.segment_parts.specs.declared.dynamic.DynamicEntryAt.{DynamicEntryAt}
-use Rattle.segment_parts.specs.declared.dynamic.DynamicEntryAt.the-variants.{At as Entry·At, NoEntry, Refused as Entry·Refused}
+use Rattle.segment_dynamic.specs.declared.dynamic.SegmentDynamic.{SegmentDynamic}
+use Rattle.segment_dynamic.specs.declared.dynamic.SegmentDynamic.the-variants.{At, NotThisKind, Refused}
+use Rattle.segment_dynamic.specs.declared.dynamic.DynamicEntry.{DynamicEntry}
+use Rattle.segment_dynamic.specs.declared.dynamic.DynamicEntryAt.{DynamicEntryAt}
+use Rattle.segment_dynamic.specs.declared.dynamic.DynamicEntryAt.the-variants.{At as Entry·At, NoEntry, Refused as Entry·Refused}
 
 abbrev pub dynamicSize : Class → ℕ
 dynamicSize Elf32 = 8

@@ -1,8 +1,8 @@
--- `segment_parts::dynamic::dynamic_count` meets its contract. Each arm is its class's own. Assumes nothing.
+-- `segment_dynamic::dynamic::dynamic_count` meets its contract. Each arm is its class's own. Assumes nothing.
 
 use borrow.Author.Needs.{needs}
-use Rattle.segment_parts.proofs.dynamic.dynamic_count.Statement.{statement}
-use Rattle.segment_parts.proofs.dynamic.dynamic_count.Tie as tie
+use Rattle.segment_dynamic.proofs.dynamic.dynamic_count.Statement.{statement}
+use Rattle.segment_dynamic.proofs.dynamic.dynamic_count.Tie as tie
 
 enum-told : tie.Need-enum-told
 enum-told c = search needs

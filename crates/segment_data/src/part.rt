@@ -5,7 +5,7 @@ use endian::refusals::Refusal;
 use endian::refusals::TOO_LONG;
 use segment::entry::Segment;
 ghost use mathlib.Core.Path.{_≡_};
-ghost use Rattle.segment_parts.specs.Part.{isInFile, isHere, segmentData, segmentDataRange};
+ghost use Rattle.segment_data.specs.Part.{isInFile, isHere, segmentData, segmentDataRange};
 
 // A part of the lent file.
 pub enum SegmentData {
@@ -20,7 +20,7 @@ pub enum SegmentDataRange {
 }
 
 // Whether the segment's bytes are all in the file. Offset and size may be any numbers.
-pub(crate) fn is_in_file(file: &[u8], segment: Segment) -> bool
+pub fn is_in_file(file: &[u8], segment: Segment) -> bool
     ensures { λ r. ⌜ r ≡ isInFile (now (file .entry)) segment ⌝ }
 {
     let len = file.len() as u64;

@@ -1,12 +1,12 @@
--- `segment_parts::part::segment_data_range` meets its contract. Each answer is the one that its tests pick; what is in the file and here adds up to no more
+-- `segment_data::part::segment_data_range` meets its contract. Each answer is the one that its tests pick; what is in the file and here adds up to no more
 -- than the file. Assumes nothing.
 use mathlib.Core.Path.{sym, _∙_}
 use native.Mathlib.Omega.{arith}
 use borrow.Author.Tests.{lt-ltb, le-ltb, not-true, not-false}
-use Rattle.segment_parts.proofs.Inside.{in-file-true, here-true}
+use Rattle.segment_data.proofs.Inside.{in-file-true, here-true}
 use borrow.Author.Needs.{needs}
-use Rattle.segment_parts.proofs.part.segment_data_range.Statement.{statement}
-use Rattle.segment_parts.proofs.part.segment_data_range.Tie as tie
+use Rattle.segment_data.proofs.part.segment_data_range.Statement.{statement}
+use Rattle.segment_data.proofs.part.segment_data_range.Tie as tie
 
 returns : tie.Need-returns
 returns c = simp (lt-ltb _ _ (c .if1 .taken))

@@ -1,8 +1,8 @@
--- `segment_parts::part::is_here` meets its contract. Each test is of what the one before left. Assumes nothing.
+-- `segment_data::part::is_here` meets its contract. Each test is of what the one before left. Assumes nothing.
 use mathlib.Core.Path.{sym}
-use Rattle.segment_parts.proofs.Inside.{here-below, here-past, here-rest}
-use Rattle.segment_parts.proofs.part.is_here.Statement.{statement}
-use Rattle.segment_parts.proofs.part.is_here.Tie as tie
+use Rattle.segment_data.proofs.Inside.{here-below, here-past, here-rest}
+use Rattle.segment_data.proofs.part.is_here.Statement.{statement}
+use Rattle.segment_data.proofs.part.is_here.Tie as tie
 
 returns : tie.Need-returns
 returns c = sym (here-below _ _ _ (c .if1 .taken))

@@ -1,5 +1,4 @@
 // The dynamic entries of a segment: where they stand in the file, and the one of a number.
-use super::part::is_in_file;
 use endian::kinds::Class;
 use endian::kinds::Order;
 use endian::refusals::BAD_DYNAMIC_PLACE;
@@ -10,9 +9,10 @@ use endian::words::u32_at;
 use endian::words::u64_at;
 use segment::entry::PT_DYNAMIC;
 use segment::entry::Segment;
+use segment_data::part::is_in_file;
 ghost use mathlib.Core.Path.{_≡_};
 ghost use Prim.Native.Nat.{_/_, _<_};
-ghost use Rattle.segment_parts.specs.Dynamic.{dynamicSize, dynamicOf, segmentDynamic, dynamicEntry};
+ghost use Rattle.segment_dynamic.specs.Dynamic.{dynamicSize, dynamicOf, segmentDynamic, dynamicEntry};
 
 // The segment's part of the lent file, and how many whole entries it has.
 pub enum SegmentDynamic {

@@ -1,11 +1,11 @@
--- `segment_parts::dynamic::dynamic_entry` meets its contract. Each answer is the one that its tests pick. Assumes nothing.
+-- `segment_dynamic::dynamic::dynamic_entry` meets its contract. Each answer is the one that its tests pick. Assumes nothing.
 use native.Mathlib.Omega.{arith}
 use borrow.Author.Tests.{lt-ltb, le-ltb, le-leb, lt-leb}
-use Rattle.segment_parts.specs.Dynamic.{dynamicEntry}
-use Rattle.segment_parts.proofs.Entries.{end-fits}
+use Rattle.segment_dynamic.specs.Dynamic.{dynamicEntry}
+use Rattle.segment_dynamic.proofs.Entries.{end-fits}
 use borrow.Author.Needs.{needs}
-use Rattle.segment_parts.proofs.dynamic.dynamic_entry.Statement.{statement}
-use Rattle.segment_parts.proofs.dynamic.dynamic_entry.Tie as tie
+use Rattle.segment_dynamic.proofs.dynamic.dynamic_entry.Statement.{statement}
+use Rattle.segment_dynamic.proofs.dynamic.dynamic_entry.Tie as tie
 
 returns : tie.Need-returns
 unfolding dynamicEntry

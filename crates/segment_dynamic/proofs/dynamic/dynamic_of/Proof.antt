@@ -1,8 +1,8 @@
--- `segment_parts::dynamic::dynamic_of` meets its contract. Each field is the word of its place in the layout. Assumes nothing.
+-- `segment_dynamic::dynamic::dynamic_of` meets its contract. Each field is the word of its place in the layout. Assumes nothing.
 use native.Mathlib.Nat.{add-zero}
 use borrow.Author.Needs.{needs}
-use Rattle.segment_parts.proofs.dynamic.dynamic_of.Statement.{statement}
-use Rattle.segment_parts.proofs.dynamic.dynamic_of.Tie as tie
+use Rattle.segment_dynamic.proofs.dynamic.dynamic_of.Statement.{statement}
+use Rattle.segment_dynamic.proofs.dynamic.dynamic_of.Tie as tie
 
 enum-told : tie.Need-enum-told
 enum-told c = search needs

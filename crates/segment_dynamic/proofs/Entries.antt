@@ -5,7 +5,7 @@ use Prim.Native.Nat.{ℕ, _+_, _*_, _/_, _^_, _<_, _≤_}
 use native.Mathlib.Omega.{arith}
 use Rattle.endian.specs.declared.kinds.Class.{Class}
 use Rattle.endian.specs.declared.kinds.Class.the-variants.{Elf32, Elf64}
-use Rattle.segment_parts.specs.Dynamic.{dynamicSize}
+use Rattle.segment_dynamic.specs.Dynamic.{dynamicSize}
 
 pub end-fits : (class : Class) (n : ℕ) → n < 2 ^ 32 → (n + 1) * dynamicSize class < 2 ^ 64
 end-fits Elf32 n h = omega arith

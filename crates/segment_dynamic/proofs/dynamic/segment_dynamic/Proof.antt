@@ -1,9 +1,9 @@
--- `segment_parts::dynamic::segment_dynamic` meets its contract. Each answer is the one that its tests pick. Assumes nothing.
+-- `segment_dynamic::dynamic::segment_dynamic` meets its contract. Each answer is the one that its tests pick. Assumes nothing.
 use mathlib.Core.Path.{sym, _∙_}
 use borrow.Author.Tests.{lt-ltb, le-ltb, eq-eqb, ne-eqb, not-true, not-false}
 use borrow.Author.Needs.{needs}
-use Rattle.segment_parts.proofs.dynamic.segment_dynamic.Statement.{statement}
-use Rattle.segment_parts.proofs.dynamic.segment_dynamic.Tie as tie
+use Rattle.segment_dynamic.proofs.dynamic.segment_dynamic.Statement.{statement}
+use Rattle.segment_dynamic.proofs.dynamic.segment_dynamic.Tie as tie
 
 returns : tie.Need-returns
 returns c = simp (lt-ltb _ _ (c .if1 .taken))
