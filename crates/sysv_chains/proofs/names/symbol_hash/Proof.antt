@@ -1,9 +1,9 @@
--- `sysv_check::names::symbol_hash` meets its contract. Each arm is told what `symbol_name` answered. Assumes nothing.
+-- `sysv_chains::names::symbol_hash` meets its contract. Each arm is told what `symbol_name` answered. Assumes nothing.
 use mathlib.Core.Path.{sym, _∙_}
-use Rattle.sysv_check.proofs.Readings.{name-inside, hash-read, hash-unread}
+use Rattle.sysv_chains.proofs.Readings.{name-inside, hash-read, hash-unread}
 use borrow.Author.Needs.{needs}
-use Rattle.sysv_check.proofs.names.symbol_hash.Statement.{statement}
-use Rattle.sysv_check.proofs.names.symbol_hash.Tie as tie
+use Rattle.sysv_chains.proofs.names.symbol_hash.Statement.{statement}
+use Rattle.sysv_chains.proofs.names.symbol_hash.Tie as tie
 
 symbol-name-requires : tie.Need-symbol-name-requires
 symbol-name-requires c κs = search needs

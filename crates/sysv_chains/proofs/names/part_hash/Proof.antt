@@ -1,9 +1,9 @@
--- `sysv_check::names::part_hash` meets its contract. A part of the strings is not too long. Assumes nothing.
+-- `sysv_chains::names::part_hash` meets its contract. A part of the strings is not too long. Assumes nothing.
 use mathlib.Core.Path.{sym, _∙_}
-use Rattle.sysv_check.proofs.Readings.{part-hash, part-refused}
+use Rattle.sysv_chains.proofs.Readings.{part-hash, part-refused}
 use borrow.Author.Needs.{needs}
-use Rattle.sysv_check.proofs.names.part_hash.Statement.{statement}
-use Rattle.sysv_check.proofs.names.part_hash.Tie as tie
+use Rattle.sysv_chains.proofs.names.part_hash.Statement.{statement}
+use Rattle.sysv_chains.proofs.names.part_hash.Tie as tie
 
 add-end : tie.Need-add-end
 add-end c = search needs

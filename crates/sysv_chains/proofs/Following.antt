@@ -16,9 +16,9 @@ use lib.Dec.{leb, ltb, eqb}
 use borrow.Author.Tests.{ne-eqb}
 use Rattle.lookup.specs.Pick.{from}
 use Rattle.lookup.proofs.Picking.{by-test, and-left, and-right}
-use Rattle.sysv_check.specs.declared.chains.Steps.{Steps}
-use Rattle.sysv_check.specs.declared.chains.Steps.the-variants.{Left, Wrong}
-use Rattle.sysv_check.specs.Pass.{inRange, mayStand, stepsOf, ended, follow, followAll, spent, allSpent}
+use Rattle.sysv_chains.specs.declared.chains.Steps.{Steps}
+use Rattle.sysv_chains.specs.declared.chains.Steps.the-variants.{Left, Wrong}
+use Rattle.sysv_chains.specs.Pass.{inRange, mayStand, stepsOf, ended, follow, followAll, spent, allSpent}
 
 module _ (chain : ℕ → ℕ) (may : ℕ → Bool) (left start : ℕ) where
   abbrev along : Steps

@@ -1,4 +1,4 @@
--- `sysv_check::chains::chain_ends` meets its contract. The invariant: what is left of the chain, with the steps that are left,
+-- `sysv_chains::chains::chain_ends` meets its contract. The invariant: what is left of the chain, with the steps that are left,
 -- gives the answer. The measure is the steps that are left. Assumes nothing.
 use Prim.Native.Nat.{_+_, _*_, _^_, _<_}
 use mathlib.Core.Path.{ap}
@@ -6,10 +6,10 @@ use native.Mathlib.Omega.{arith}
 use borrow.Author.Needs.{needs}
 use borrow.Author.Tests.{lt-leb, le-leb, lt-ltb, le-ltb}
 use Rattle.endian.specs.Word.{wordAt}
-use Rattle.sysv_check.specs.Pass.{inRange, ended}
-use Rattle.sysv_check.proofs.Following.{Following, following-start, following-zero, following-spent, following-bad, following-on}
-use Rattle.sysv_check.proofs.chains.chain_ends.Statement.{statement}
-use Rattle.sysv_check.proofs.chains.chain_ends.Tie as tie
+use Rattle.sysv_chains.specs.Pass.{inRange, ended}
+use Rattle.sysv_chains.proofs.Following.{Following, following-start, following-zero, following-spent, following-bad, following-on}
+use Rattle.sysv_chains.proofs.chains.chain_ends.Statement.{statement}
+use Rattle.sysv_chains.proofs.chains.chain_ends.Tie as tie
 
 abbrev Inv-loop : tie.InvT-loop
 Inv-loop order table chains-at count low start left i₀ k₀ i k =

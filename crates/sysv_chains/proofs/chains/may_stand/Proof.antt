@@ -1,8 +1,8 @@
--- `sysv_check::chains::may_stand` meets its contract. Each return is a case of `mayStand`. Assumes nothing.
+-- `sysv_chains::chains::may_stand` meets its contract. Each return is a case of `mayStand`. Assumes nothing.
 use borrow.Author.Tests.{lt-leb, le-leb, lt-ltb, le-ltb}
 use borrow.Author.Needs.{needs}
-use Rattle.sysv_check.proofs.chains.may_stand.Statement.{statement}
-use Rattle.sysv_check.proofs.chains.may_stand.Tie as tie
+use Rattle.sysv_chains.proofs.chains.may_stand.Statement.{statement}
+use Rattle.sysv_chains.proofs.chains.may_stand.Tie as tie
 
 returns : tie.Need-returns
 returns c = rw (lt-leb _ _ (c .if1 .taken))

@@ -5,12 +5,11 @@ use endian::kinds::Order;
 use endian::words::u32_at;
 use symbol::table::SymbolIndex;
 ghost use mathlib.Core.Path.{_≡_};
-ghost use Prim.Native.Nat.{_+_, _-_, _*_, _%_, _^_, _≤_, _<_};
+ghost use Prim.Native.Nat.{_+_, _*_, _%_, _^_, _<_};
 ghost use Rattle.endian.specs.Word.{wordAt};
 ghost use Rattle.lookup.specs.Wanted.{nameOf};
-ghost use Rattle.sysv_check.specs.Rules.{hashOf};
-ghost use Rattle.sysv_check.specs.Pass.{inRange, mayStand, stepsOf, ended, allSpent};
-ghost use Rattle.sysv_check.specs.Pass.{follow as followed};
+ghost use Rattle.sysv_chains.specs.Pass.{hashOf, inRange, mayStand, stepsOf, ended, allSpent};
+ghost use Rattle.sysv_chains.specs.Pass.{follow as followed};
 
 // What is left of the steps after a chain, or that something is wrong with it.
 pub enum Steps {
@@ -127,8 +126,9 @@ fn follow(
     }
 }
 
-// T3: along every chain, with as many steps as there are symbols from low on.
-pub(crate) fn chains_hold(
+// Whether all chains together take exactly so many steps, and only numbers from low on and below the
+// count stand on them, each on the chain of its hash.
+pub fn chains_hold(
     class: Class,
     order: Order,
     table: &[u8],
@@ -137,16 +137,16 @@ pub(crate) fn chains_hold(
     buckets: u32,
     count: u32,
     low: u32,
+    steps: u32,
 ) -> bool
-    requires { ⌜ (0 < buckets) × (low ≤ count) ⌝ }
     ensures { λ r. ⌜ r
         ≡ allSpent (λ j. wordAt order 4 (now (table .entry)) (8 + buckets * 4 + j * 4))
         (λ b. wordAt order 4 (now (table .entry)) (8 + b * 4))
         (mayStand (λ j. hashOf (nameOf class order (now (symbols .entry)) (now (strings .entry))) j % buckets) low count)
-        buckets (count - low) ⌝ }
+        buckets steps ⌝ }
 {
     let chains_at = 8 + buckets as usize * 4;
-    let mut left: u32 = count - low;
+    let mut left: u32 = steps;
     let mut b: u32 = 0;
     while b < buckets {
         let start = u32_at(order, table, 8 + b as usize * 4);

@@ -1,4 +1,4 @@
--- `sysv_check::chains::chains_hold` meets its contract. The invariant: the buckets that are left, with the steps that are
+-- `sysv_chains::chains::chains_hold` meets its contract. The invariant: the buckets that are left, with the steps that are
 -- left, give the answer. The measure is how many buckets are left. Assumes nothing.
 use Prim.Native.Nat.{_+_, _-_, _*_, _%_}
 use mathlib.Core.Path.{_≡_, sym, _∙_}
@@ -6,29 +6,25 @@ use borrow.Author.Needs.{needs}
 use borrow.Author.Tests.{not-true}
 use Rattle.endian.specs.Word.{wordAt}
 use Rattle.lookup.specs.Wanted.{nameOf}
-use Rattle.sysv_check.specs.Rules.{hashOf}
-use Rattle.sysv_check.specs.Pass.{mayStand}
-use Rattle.sysv_check.proofs.Following.{range-wrong, Passing, passing-start, passing-wrong, passing-on, passing-end}
-use Rattle.sysv_check.proofs.chains.chains_hold.Statement.{statement}
-use Rattle.sysv_check.proofs.chains.chains_hold.Tie as tie
+use Rattle.sysv_chains.specs.Pass.{hashOf, mayStand}
+use Rattle.sysv_chains.proofs.Following.{range-wrong, Passing, passing-start, passing-wrong, passing-on, passing-end}
+use Rattle.sysv_chains.proofs.chains.chains_hold.Statement.{statement}
+use Rattle.sysv_chains.proofs.chains.chains_hold.Tie as tie
 
 abbrev Inv-loop : tie.InvT-loop
-Inv-loop class order table symbols strings buckets count low chains-at left₀ b₀ left b =
+Inv-loop class order table symbols strings buckets count low steps chains-at left₀ b₀ left b =
     (chains-at ≡ 8 + buckets * 4)
     × Passing (λ j. wordAt order 4 table (8 + buckets * 4 + j * 4)) (λ a. wordAt order 4 table (8 + a * 4))
-    (mayStand (λ j. hashOf (nameOf class order symbols strings) j % buckets) low count) buckets (count - low) b left
+    (mayStand (λ j. hashOf (nameOf class order symbols strings) j % buckets) low count) buckets steps b left
 
 abbrev μ-loop : tie.MeasureT-loop
-μ-loop class order table symbols strings buckets count low chains-at left₀ b₀ left b = buckets - b
+μ-loop class order table symbols strings buckets count low steps chains-at left₀ b₀ left b = buckets - b
 
 mul-chains-at : tie.Need-mul-chains-at Inv-loop μ-loop
 mul-chains-at c = search needs
 
 add-chains-at : tie.Need-add-chains-at Inv-loop μ-loop
 add-chains-at c = search needs
-
-sub-left : tie.Need-sub-left Inv-loop μ-loop
-sub-left c = search needs
 
 loop-holds : tie.Need-loop-holds Inv-loop μ-loop
 loop-holds c = (search needs, passing-start _ _ _ _ _)
@@ -103,7 +99,6 @@ chains-hold-spec =
     μ-loop
     mul-chains-at
     add-chains-at
-    sub-left
     loop-holds
     cast-u32-at
     mul-u32-at

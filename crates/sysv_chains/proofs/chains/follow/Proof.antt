@@ -1,4 +1,4 @@
--- `sysv_check::chains::follow` meets its contract. The invariant: what is left of the chain, with the steps that are left,
+-- `sysv_chains::chains::follow` meets its contract. The invariant: what is left of the chain, with the steps that are left,
 -- gives the answer. The measure is the steps that are left. Assumes nothing.
 use Prim.Native.Nat.{_+_, _*_, _%_, _^_, _<_}
 use mathlib.Core.Path.{sym, _∙_}
@@ -7,11 +7,11 @@ use borrow.Author.Needs.{needs}
 use borrow.Author.Tests.{not-true, not-false}
 use Rattle.endian.specs.Word.{wordAt}
 use Rattle.lookup.specs.Wanted.{nameOf}
-use Rattle.sysv_check.specs.Rules.{hashOf}
-use Rattle.sysv_check.specs.Pass.{mayStand}
-use Rattle.sysv_check.proofs.Following.{Following, following-start, following-zero, following-spent, following-bad, following-on}
-use Rattle.sysv_check.proofs.chains.follow.Statement.{statement}
-use Rattle.sysv_check.proofs.chains.follow.Tie as tie
+use Rattle.sysv_chains.specs.Pass.{hashOf}
+use Rattle.sysv_chains.specs.Pass.{mayStand}
+use Rattle.sysv_chains.proofs.Following.{Following, following-start, following-zero, following-spent, following-bad, following-on}
+use Rattle.sysv_chains.proofs.chains.follow.Statement.{statement}
+use Rattle.sysv_chains.proofs.chains.follow.Tie as tie
 
 abbrev Inv-loop : tie.InvT-loop
 Inv-loop class order table symbols strings buckets chains-at count low b start left number₀ k₀ number k =
