@@ -7,8 +7,8 @@
 
 ORACLE ?= ../shared/oracle
 CARGO := cargo
-# The crates with the exported functions, one for each module.
-EXPORTS := words strings symbols hashes notes versions lookups checks segments
+# The crates with the exported functions.
+EXPORTS := words strings symbols hashes notes versions lookups checks segments segment_parts
 ARCHIVE := target/staticlib/libfetulombo.a
 OBJECTS := target/archive
 

@@ -11,7 +11,7 @@ use lib.ListN.{length, take, drop}
 use Rattle.endian.specs.First.{first}
 use Rattle.endian.specs.Refusals.{limit, tooLong, badInterpreterPlace, endlessInterpreter}
 use Rattle.strings.specs.Strings.{isZero, readable}
-use Rattle.segment_parts.specs.Part.{isInFile}
+use Rattle.segment_data.specs.Part.{isInFile}
 use Rattle.segment.specs.declared.entry.Segment.{Segment}
 use Rattle.segment_parts.specs.declared.interpreter.SegmentInterpreter.{SegmentInterpreter}
 use Rattle.segment_parts.specs.declared.interpreter.SegmentInterpreter.the-variants.{At, NotThisKind, Refused}

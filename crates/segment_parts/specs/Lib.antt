@@ -1,4 +1,2 @@
-pub mod Dynamic
 pub mod Interpreter
-pub mod Part
 pub mod SegmentNotes

@@ -1,5 +1,4 @@
 // The name of the interpreter that a segment holds.
-use super::part::is_in_file;
 use endian::refusals::BAD_INTERPRETER_PLACE;
 use endian::refusals::ENDLESS_INTERPRETER;
 use endian::refusals::LIMIT;
@@ -7,6 +6,7 @@ use endian::refusals::Refusal;
 use endian::refusals::TOO_LONG;
 use segment::entry::PT_INTERP;
 use segment::entry::Segment;
+use segment_data::part::is_in_file;
 use strings::StringAt;
 ghost use mathlib.Core.Path.{_≡_};
 ghost use Rattle.segment_parts.specs.Interpreter.{segmentInterpreter};

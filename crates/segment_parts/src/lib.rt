@@ -1,6 +1,3 @@
-// What a segment holds in the lent file: its data, the bytes of an address range, dynamic entries, the
-// interpreter's name, notes.
-pub mod dynamic;
+// What a segment's bytes in the lent file are: the interpreter's name, notes.
 pub mod interpreter;
 pub mod notes;
-pub mod part;

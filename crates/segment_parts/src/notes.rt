@@ -1,5 +1,4 @@
 // The notes of a segment.
-use super::part::is_in_file;
 use endian::kinds::Order;
 use endian::refusals::BAD_NOTE_PLACE;
 use endian::refusals::LIMIT;
@@ -9,6 +8,7 @@ use note::reader::NoteReader;
 use note::reader::ReaderFor;
 use segment::entry::PT_NOTE;
 use segment::entry::Segment;
+use segment_data::part::is_in_file;
 ghost use mathlib.Core.Path.{_≡_};
 ghost use Rattle.segment_parts.specs.SegmentNotes.{segmentNotes};
 

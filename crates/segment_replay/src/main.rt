@@ -13,18 +13,18 @@ use note::reader::Align;
 use segment::entry::Segment;
 use segment::table::SegmentAt;
 use segment::table::segment_at;
-use segment_parts::dynamic::DynamicEntryAt;
-use segment_parts::dynamic::SegmentDynamic;
-use segment_parts::dynamic::dynamic_entry;
-use segment_parts::dynamic::segment_dynamic;
+use segment_data::part::SegmentData;
+use segment_data::part::SegmentDataRange;
+use segment_data::part::segment_data;
+use segment_data::part::segment_data_range;
+use segment_dynamic::dynamic::DynamicEntryAt;
+use segment_dynamic::dynamic::SegmentDynamic;
+use segment_dynamic::dynamic::dynamic_entry;
+use segment_dynamic::dynamic::segment_dynamic;
 use segment_parts::interpreter::SegmentInterpreter;
 use segment_parts::interpreter::segment_interpreter;
 use segment_parts::notes::SegmentNotes;
 use segment_parts::notes::segment_notes;
-use segment_parts::part::SegmentData;
-use segment_parts::part::SegmentDataRange;
-use segment_parts::part::segment_data;
-use segment_parts::part::segment_data_range;
 
 const RECORD: usize = 320;
 

@@ -28,8 +28,9 @@ use Rattle.sysv.specs.Layout.{fault, headerOf, headerAt, headerUnless, tableOf}
 use Rattle.sysv.specs.Table.{Table}
 use Rattle.sysv_check.specs.declared.table.Checked.{Checked}
 use Rattle.sysv_check.specs.Count.{every}
-use Rattle.sysv_check.specs.Rules.{firstGlobal, hashOf, t1, t2, t3, check}
-use Rattle.sysv_check.specs.Pass.{shaped, mayStand, allSpent}
+use Rattle.sysv_check.specs.Rules.{firstGlobal, t1, t2, t3, check}
+use Rattle.sysv_chains.specs.Pass.{hashOf, mayStand, allSpent}
+use Rattle.sysv_check.specs.Pass.{shaped}
 use Rattle.sysv_check.specs.Check.{unlessRefused, sysvCheck}
 use Rattle.sysv_check.proofs.Counted.{counted}
 

@@ -1,24 +1,13 @@
--- What the checker's passes compute: T1 of the numbers, T2 by the place after the last zero, and T3 by one walk along every
--- chain with as many steps as there are symbols. That these are T1 to T3 is proved (`proofs/Readings`, `Counted`, `Passes`).
+-- What the checker's first passes compute: T1 of the numbers, and T2 by the place after the last zero. That these are T1 and T2
+-- is proved (`proofs/Readings`, `Passes`).
 --     shaped                  T1
 --     startsBelow             whether a symbol's name starts below a place
---     inRange                 whether a number may stand on a chain at all
---     mayStand                whether it may stand on the chain of a bucket
---     stepsOf, ended          what is left of the steps after a chain, or that something is wrong with it; whether nothing is
---     follow                  along one chain with k steps left: the steps that are left after it, or none
---     onward, followAll       along the chains of these buckets, with what is left
---     spent                   nothing is left of the steps
 -- Assumes nothing.
-use Prim.Native.Nat.{ℕ, zero, suc}
-use mathlib.Core.Bool.{Bool, true, false, cond, _&&_}
-use mathlib.Core.List.{List, [], _∷_}
-use mathlib.Core.Option.{Option, some, none}
+use Prim.Native.Nat.{ℕ}
+use mathlib.Core.Bool.{Bool, false, _&&_}
 use lib.Dec.{leb, ltb, eqb}
 use Rattle.symbol.specs.declared.table.SymbolAt.{SymbolAt}
 use Rattle.symbol.specs.declared.table.SymbolAt.the-variants.{At, Refused}
-use Rattle.lookup.specs.Pick.{from}
-use Rattle.sysv_check.specs.declared.chains.Steps.{Steps}
-use Rattle.sysv_check.specs.declared.chains.Steps.the-variants.{Left, Wrong}
 
 abbrev pub shaped : (buckets chains count low : ℕ) → Bool
 shaped buckets chains count low = leb 1 low && (leb low count && (eqb chains count && leb 1 buckets))
@@ -26,40 +15,3 @@ shaped buckets chains count low = leb 1 low && (leb low count && (eqb chains cou
 abbrev pub startsBelow : (end : ℕ) → SymbolAt → Bool
 startsBelow end (At symbol) = ltb (symbol .name) end
 startsBelow end (Refused r) = false
-
-abbrev pub inRange : (low count i : ℕ) → Bool
-inRange low count i = leb low i && ltb i count
-
--- `home i`: the bucket of number i
-abbrev pub mayStand : (home : ℕ → ℕ) → (low count b i : ℕ) → Bool
-mayStand home low count b i = leb low i && (ltb i count && eqb (home i) b)
-
-abbrev pub stepsOf : Option ℕ → Steps
-stepsOf none = Wrong
-stepsOf (some k) = Left k
-
-abbrev pub ended : Steps → Bool
-ended Wrong = false
-ended (Left k) = true
-
-module _ (chain : ℕ → ℕ) where
-  unfoldable pub follow : (may : ℕ → Bool) → (k i : ℕ) → Option ℕ
-  follow may zero i = cond (eqb i 0) (some 0) none
-  follow may (suc k) i = cond (eqb i 0) (some (suc k)) (cond (may i) (follow may k (chain i)) none)
-
-  module _ (bucket : ℕ → ℕ) (may : (b i : ℕ) → Bool) where
-    abbrev pub onward : (b : ℕ) → Option ℕ → Option ℕ
-    onward b none = none
-    onward b (some k) = follow (may b) k (bucket b)
-
-    unfoldable pub followAll : List ℕ → Option ℕ → Option ℕ
-    followAll [] left = left
-    followAll (b ∷ bs) left = followAll bs (onward b left)
-
-abbrev pub spent : Option ℕ → Bool
-spent none = false
-spent (some k) = eqb k 0
-
--- along every chain, in exactly so many steps
-abbrev pub allSpent : (chain bucket : ℕ → ℕ) → (may : (b i : ℕ) → Bool) → (buckets steps : ℕ) → Bool
-allSpent chain bucket may buckets steps = spent (followAll chain bucket may (from 0 buckets) (some steps))

@@ -1,7 +1,7 @@
 -- The rules of the SysV checker, over a table as numbers and functions (01, "SysV checker"). `low` is the first symbol that
 -- must be found.
 --     firstGlobal         that symbol: 1
---     hashOf, bucketOf    the hash of a symbol, and its bucket
+--     bucketOf            the bucket of a symbol, by the hash of its name
 --     ends                whether a chain comes to 0
 --     Chain               the same without a bound on its steps: the numbers of a chain that comes to 0
 --     t1, t2, t3          the rules
@@ -11,21 +11,16 @@ use Prim.Native.Nat.{ℕ, zero, suc, _-_, _%_, _<_}
 use mathlib.Core.Path.{_≡_}
 use mathlib.Core.Bool.{Bool, true, cond, not, _&&_}
 use mathlib.Core.List.{List, [], _∷_}
-use mathlib.Core.Option.{Option, Option·getD}
 use lib.Dec.{leb, ltb, eqb}
-use Rattle.name_hash.specs.Hash.{sysvHash}
 use Rattle.lookup.specs.Pick.{from, isNone}
 use Rattle.sysv.specs.Table.{Table, numbers}
+use Rattle.sysv_chains.specs.Pass.{hashOf}
 use Rattle.sysv_check.specs.declared.table.Checked.{Checked}
 use Rattle.sysv_check.specs.declared.table.Checked.the-variants.{Accepted, Broken}
 use Rattle.sysv_check.specs.Count.{every, times}
 
 abbrev pub firstGlobal : ℕ
 firstGlobal = 1
-
--- of the names by number; of one that cannot be read, that of the empty name
-unfoldable pub hashOf : (name : ℕ → Option (List ℕ)) → ℕ → ℕ
-hashOf name i = sysvHash (Option·getD (name i) [])
 
 -- from number i on, in at most k steps, by numbers below chain_count
 unfoldable pub ends : (chainCount : ℕ) → (chain : ℕ → ℕ) → (k i : ℕ) → Bool

@@ -1,4 +1,3 @@
 // The checker of SysV hash tables: the rules T1 to T3, in one pass over names and chains.
-mod chains;
 mod names;
 pub mod table;

@@ -1,5 +1,4 @@
 // The checker: its refusals, then its rules in order.
-use super::chains::chains_hold;
 use super::names::names_readable;
 use endian::kinds::Class;
 use endian::kinds::Order;
@@ -11,6 +10,7 @@ use symbol::table::symbol_count;
 use sysv::header::Header;
 use sysv::header::HeaderAt;
 use sysv::header::header_of;
+use sysv_chains::chains::chains_hold;
 ghost use mathlib.Core.Path.{_≡_};
 ghost use Prim.Native.Nat.{_/_, _≤_};
 ghost use lib.ListN.{length};
@@ -70,7 +70,17 @@ fn check_rules(
     if !names_readable(class, order, symbols, strings, low, count) {
         return Checked::Broken(2);
     }
-    if !chains_hold(class, order, table, symbols, strings, buckets, count, low) {
+    if !chains_hold(
+        class,
+        order,
+        table,
+        symbols,
+        strings,
+        buckets,
+        count,
+        low,
+        count - low,
+    ) {
         return Checked::Broken(3);
     }
     Checked::Accepted

@@ -13,7 +13,8 @@ use Rattle.endian.specs.declared.kinds.Order.{Order}
 use Rattle.endian.specs.declared.refusals.Refusal.{Refusal}
 use Rattle.version_parse.specs.Outcome.{Outcome, folded}
 use Rattle.version_parse.specs.Outcome.Outcome.{fine, stop}
-use Rattle.version_parse.specs.Highest.{needIndex, auxIndices, higherOf}
+use Rattle.version_layout.specs.Indices.{needIndex}
+use Rattle.version_parse.specs.Highest.{auxIndices, higherOf}
 use Rattle.version.specs.Store.{Stored, putEntry}
 use Rattle.version_parse.specs.Entries.{storing}
 use Rattle.version.specs.declared.index.VersionIndex.{VersionIndex}
@@ -29,7 +30,7 @@ higherOf-again high index =
     ap (λ (n : ℕ). record { 0 = n }) e
 
 module _ (order : Order) (s : List ℕ) (a : Aux) where
-  pub higher-once : (high high′ index : VersionIndex) → high′ ≡ higherOf high index → index ≡ needIndex order s a
+  pub higher-once : (high high′ index : VersionIndex) → high′ ≡ higherOf high index → index ≡ needIndex order s (a .at)
       → fine high′ ≡ folded higherOf high (auxIndices order s a)
   unfolding auxIndices
   higher-once high high′ index h i = ap fine (h ∙ ap (higherOf high) i)
@@ -39,8 +40,8 @@ module _ (order : Order) (s : List ℕ) (a : Aux) where
   unfolding auxIndices
   higher-again high high′ h =
       let e = fine-same _ _ h in
-      ap fine (e ∙ sym (higherOf-again high (needIndex order s a)) ∙ ap
-      (λ (x : VersionIndex). higherOf x (needIndex order s a)) (sym e))
+      ap fine (e ∙ sym (higherOf-again high (needIndex order s (a .at))) ∙ ap
+      (λ (x : VersionIndex). higherOf x (needIndex order s (a .at))) (sym e))
 
 module _ (st : List ℕ) (passed : Bool) (index : VersionIndex) (version : Outcome Version) where
   pub storing-over : passed ≡ true → fine st ≡ folded putEntry st (storing passed index version)

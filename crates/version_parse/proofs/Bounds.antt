@@ -15,7 +15,7 @@ use borrow.Author.Tests.{ltb-false, eqb-false}
 use Rattle.endian.specs.declared.kinds.Order.{Order}
 use Rattle.endian.specs.declared.refusals.Refusal.{Refusal}
 use Rattle.endian.specs.Word.{fieldAt}
-use Rattle.version_parse.specs.Layouts.{field}
+use Rattle.version_layout.specs.Layouts.{field}
 use Rattle.version_parse.specs.Outcome.Outcome.{fine, stop}
 use Rattle.version_parse.specs.Walk.Walk.{end, broken, more}
 use Rattle.version_parse.specs.Records.{placeAfter, recordAt, auxAt, listed, vernauxs, vernauxShape, Within}

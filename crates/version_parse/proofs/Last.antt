@@ -25,7 +25,8 @@ use Rattle.version_parse.specs.Walk.{Walk, collect}
 use Rattle.version_parse.specs.Walk.Walk.{end, broken, more}
 use Rattle.version.specs.Index.{isSpecial}
 use Rattle.version_parse.specs.Records.{verdefs, verneeds, vernauxs}
-use Rattle.version_parse.specs.Highest.{highest, isBase, defIndex, needIndex, needCount}
+use Rattle.version_layout.specs.Indices.{defIndex, needIndex}
+use Rattle.version_parse.specs.Highest.{highest, isBase, needCount}
 use Rattle.version.specs.Store.{entrySize, storeNeeds, versionNumbers, Stored, putEntry}
 use Rattle.version_parse.specs.Entries.{storing, passedOver, defVersion, needVersion, defEntries, auxEntries, needEntries, entries}
 use Rattle.version_parse.specs.Room.{All, DefRoom, AuxRoom, NeedRoom}
@@ -128,13 +129,13 @@ module _ (n : ℕ) where
     def-fits : (d : Record) → DefRoom order s n d → (xs : List Stored) → defEntries order s strings d ≡ fine xs
         → Fits n xs
     def-fits d room xs h =
-        storing-fits (passedOver order s d) (defIndex order s d) (defVersion order s strings d)
+        storing-fits (passedOver order s d) (defIndex order s (d .at)) (defVersion order s strings d)
         (λ kept. room (or-left (isBase order s d) _ kept)) xs h
 
     aux-fits : (file : ℕ) (a : Aux) → AuxRoom order s n a → (xs : List Stored)
         → auxEntries order s strings file a ≡ fine xs → Fits n xs
     aux-fits file a room xs h =
-        storing-fits (isSpecial (needIndex order s a)) (needIndex order s a) (needVersion order s strings file a)
+        storing-fits (isSpecial (needIndex order s (a .at))) (needIndex order s (a .at)) (needVersion order s strings file a)
         (λ kept. room) xs h
 
     need-fits : (r : Record) → NeedRoom order s n r → (xs : List Stored) → needEntries order s strings r ≡ fine xs

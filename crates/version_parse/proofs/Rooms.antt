@@ -13,7 +13,8 @@ use Rattle.version_parse.specs.Outcome.Outcome.{fine, stop}
 use Rattle.version_parse.specs.Walk.{Walk, collect}
 use Rattle.version_parse.specs.Walk.Walk.{end, broken, more}
 use Rattle.version_parse.specs.Records.{verdefs, verneeds, vernauxs}
-use Rattle.version_parse.specs.Highest.{defIndex, needIndex, needCount, higherOf, defIndices, auxIndices, needIndices, highest}
+use Rattle.version_layout.specs.Indices.{defIndex, needIndex}
+use Rattle.version_parse.specs.Highest.{needCount, higherOf, defIndices, auxIndices, needIndices, highest}
 use Rattle.version.specs.Store.{storeNeeds}
 use Rattle.version_parse.specs.Room.{All, DefRoom, AuxRoom, NeedRoom}
 use Rattle.version.specs.declared.index.VersionIndex.{VersionIndex}
@@ -60,17 +61,17 @@ module _ (order : Order) (s : List ℕ) (n : ℕ) where
       → DefRoom order s n d
   unfolding defIndices
   def-room d low high h fits kept =
-      let one : folded higherOf low (fine (defIndex order s d ∷ [])) ≡ fine high = rw kept at h in
-      let e : higherOf low (defIndex order s d) .0 ≡ high .0 = ap (λ (x : VersionIndex). x .0) (fine-same _ _ one) in
-      omega (arith, higherOf-takes low (defIndex order s d))
+      let one : folded higherOf low (fine (defIndex order s (d .at) ∷ [])) ≡ fine high = rw kept at h in
+      let e : higherOf low (defIndex order s (d .at)) .0 ≡ high .0 = ap (λ (x : VersionIndex). x .0) (fine-same _ _ one) in
+      omega (arith, higherOf-takes low (defIndex order s (d .at)))
 
   aux-room : (a : Aux) (low high : VersionIndex) → folded higherOf low (auxIndices order s a) ≡ fine high
       → storeNeeds high ≤ n
       → AuxRoom order s n a
   unfolding auxIndices
   aux-room a low high h fits =
-      let e : higherOf low (needIndex order s a) .0 ≡ high .0 = ap (λ (x : VersionIndex). x .0) (fine-same _ _ h) in
-      omega (arith, higherOf-takes low (needIndex order s a))
+      let e : higherOf low (needIndex order s (a .at)) .0 ≡ high .0 = ap (λ (x : VersionIndex). x .0) (fine-same _ _ h) in
+      omega (arith, higherOf-takes low (needIndex order s (a .at)))
 
   need-room : (r : Record) (low high : VersionIndex) → folded higherOf low (needIndices order s r) ≡ fine high
       → storeNeeds high ≤ n

@@ -18,12 +18,13 @@ use Rattle.endian.specs.Word.{fieldAt}
 use Rattle.strings.specs.Strings.{stringAt}
 use Rattle.strings.specs.declared.StringAt.{StringAt}
 use Rattle.version.specs.Index.{isSpecial}
-use Rattle.version_parse.specs.Layouts.{verdef, verdaux, verneed, vernaux}
+use Rattle.version_layout.specs.Layouts.{verdef, verdaux, verneed, vernaux}
 use Rattle.version_parse.specs.Outcome.{Outcome, bind, both}
 use Rattle.version_parse.specs.Outcome.Outcome.{fine, stop}
 use Rattle.version_parse.specs.Walk.{collect}
 use Rattle.version_parse.specs.Records.{verdauxShape, auxAt, verdefs, verneeds, vernauxs}
-use Rattle.version_parse.specs.Highest.{isBase, defIndex, needIndex, needCount}
+use Rattle.version_layout.specs.Indices.{defIndex, needIndex}
+use Rattle.version_parse.specs.Highest.{isBase, needCount}
 use Rattle.version.specs.Store.{noFile, Stored}
 use Rattle.version.specs.declared.index.VersionIndex.{VersionIndex}
 use Rattle.version_parse.specs.declared.records.Record.{Record}
@@ -52,7 +53,7 @@ defVersion order s strings d =
 -- flagged base, or a special index, or no aux
 abbrev pub passedOver : Order → List ℕ → Record → Bool
 passedOver order s d =
-    isBase order s d || (isSpecial (defIndex order s d) || eqb (fieldAt order s (d .at) (verdef .cnt)) 0)
+    isBase order s d || (isSpecial (defIndex order s (d .at)) || eqb (fieldAt order s (d .at) (verdef .cnt)) 0)
 
 -- nothing where the record is passed over, else its version
 abbrev pub storing : (passed : Bool) → VersionIndex → Outcome Version → Outcome (List Stored)
@@ -60,7 +61,7 @@ storing true index version = fine []
 storing false index version = bind version (λ v. fine (record { index = index; version = v } ∷ []))
 
 abbrev pub defEntries : Order → (s strings : List ℕ) → Record → Outcome (List Stored)
-defEntries order s strings d = storing (passedOver order s d) (defIndex order s d) (defVersion order s strings d)
+defEntries order s strings d = storing (passedOver order s d) (defIndex order s (d .at)) (defVersion order s strings d)
 
 unfoldable pub needVersion : Order → (s strings : List ℕ) → (file : ℕ) → Aux → Outcome Version
 needVersion order s strings file a =
@@ -71,7 +72,7 @@ needVersion order s strings file a =
 -- a special index stores nothing
 abbrev pub auxEntries : Order → (s strings : List ℕ) → (file : ℕ) → Aux → Outcome (List Stored)
 auxEntries order s strings file a =
-    storing (isSpecial (needIndex order s a)) (needIndex order s a) (needVersion order s strings file a)
+    storing (isSpecial (needIndex order s (a .at))) (needIndex order s (a .at)) (needVersion order s strings file a)
 
 abbrev pub needEntries : Order → (s strings : List ℕ) → Record → Outcome (List Stored)
 needEntries order s strings r =

@@ -1,7 +1,6 @@
 -- The first pass (01, module 5): the highest index over definitions (whole 16 bits) and needs (low 15 bits).
---     isBase, defIndex                     of a definition: flagged base (value 1), and its index
+--     isBase                               of a definition: flagged base (value 1)
 --     needCount                            of a need: how many versions it has
---     needIndex                            of a needed version: its index
 --     defIndices, auxIndices, needIndices  the indices that a definition, a needed version, a need name
 --     indices                              those of the definitions, then those of the needs
 --     highest                              the highest of them, or 0 where there is none
@@ -15,7 +14,8 @@ use Rattle.endian.specs.declared.kinds.Order.{Order}
 use Rattle.endian.specs.declared.refusals.Refusal.{Refusal}
 use Rattle.endian.specs.Refusals.{refusal}
 use Rattle.endian.specs.Word.{fieldAt}
-use Rattle.version_parse.specs.Layouts.{verdef, verneed, vernaux}
+use Rattle.version_layout.specs.Indices.{defIndex, needIndex}
+use Rattle.version_layout.specs.Layouts.{verdef, verneed}
 use Rattle.version_parse.specs.Outcome.{Outcome, both, folded}
 use Rattle.version_parse.specs.Outcome.Outcome.{fine, stop}
 use Rattle.version_parse.specs.Walk.{collect}
@@ -28,21 +28,15 @@ use Rattle.version_parse.specs.declared.highest.High.{High}
 abbrev pub isBase : Order → List ℕ → Record → Bool
 isBase order s r = eqb (fieldAt order s (r .at) (verdef .flags) % 2) 1
 
-abbrev pub defIndex : Order → List ℕ → Record → VersionIndex
-defIndex order s r = record { 0 = fieldAt order s (r .at) (verdef .ndx) }
-
 abbrev pub needCount : Order → List ℕ → Record → ℕ
 needCount order s r = fieldAt order s (r .at) (verneed .cnt)
 
-abbrev pub needIndex : Order → List ℕ → Aux → VersionIndex
-needIndex order s a = record { 0 = fieldAt order s (a .at) (vernaux .other) % 0x8000 }
-
 -- definitions flagged base are passed over
 unfoldable pub defIndices : Order → List ℕ → Record → Outcome (List VersionIndex)
-defIndices order s r = fine (cond (isBase order s r) [] (defIndex order s r ∷ []))
+defIndices order s r = fine (cond (isBase order s r) [] (defIndex order s (r .at) ∷ []))
 
 unfoldable pub auxIndices : Order → List ℕ → Aux → Outcome (List VersionIndex)
-auxIndices order s a = fine (needIndex order s a ∷ [])
+auxIndices order s a = fine (needIndex order s (a .at) ∷ [])
 
 abbrev pub needIndices : Order → List ℕ → Record → Outcome (List VersionIndex)
 needIndices order s r = collect (auxIndices order s) (vernauxs order s (needCount order s r) (r .aux))

@@ -1,6 +1,5 @@
 pub mod Entries
 pub mod Highest
-pub mod Layouts
 pub mod Outcome
 pub mod Parse
 pub mod Records

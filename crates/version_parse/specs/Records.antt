@@ -19,7 +19,7 @@ use Rattle.endian.specs.declared.kinds.Order.{Order}
 use Rattle.endian.specs.declared.refusals.Refusal.{Refusal}
 use Rattle.endian.specs.Refusals.{refusal, verdefShort, badVerdefAux, badVerdefNext, verdauxShort, badVerdauxNext, verneedShort, badVerneedAux, badVerneedNext, vernauxShort, badVernauxNext}
 use Rattle.endian.specs.Word.{fieldAt}
-use Rattle.version_parse.specs.Layouts.{field, verdef, verdaux, verneed, vernaux}
+use Rattle.version_layout.specs.Layouts.{field, verdef, verdaux, verneed, vernaux}
 use Rattle.version_parse.specs.Outcome.{Outcome}
 use Rattle.version_parse.specs.Outcome.Outcome.{fine, stop}
 use Rattle.version_parse.specs.Walk.{Walk, chain, counted}

@@ -10,7 +10,8 @@ use Rattle.endian.specs.declared.kinds.Order.{Order}
 use Rattle.version_parse.specs.Walk.{Walk}
 use Rattle.version_parse.specs.Walk.Walk.{end, broken, more}
 use Rattle.version_parse.specs.Records.{vernauxs}
-use Rattle.version_parse.specs.Highest.{isBase, defIndex, needIndex, needCount}
+use Rattle.version_layout.specs.Indices.{defIndex, needIndex}
+use Rattle.version_parse.specs.Highest.{isBase, needCount}
 use Rattle.version.specs.Store.{storeNeeds}
 use Rattle.version_parse.specs.declared.records.Record.{Record}
 use Rattle.version_parse.specs.declared.records.Aux.{Aux}
@@ -21,10 +22,10 @@ All P (broken e) = Unit {0}
 All P (more a w) = P a × All P w
 
 abbrev pub DefRoom : Order → List ℕ → (n : ℕ) → Record → Type 0
-DefRoom order s n d = isBase order s d ≡ false → storeNeeds (defIndex order s d) ≤ n
+DefRoom order s n d = isBase order s d ≡ false → storeNeeds (defIndex order s (d .at)) ≤ n
 
 abbrev pub AuxRoom : Order → List ℕ → (n : ℕ) → Aux → Type 0
-AuxRoom order s n a = storeNeeds (needIndex order s a) ≤ n
+AuxRoom order s n a = storeNeeds (needIndex order s (a .at)) ≤ n
 
 abbrev pub NeedRoom : Order → List ℕ → (n : ℕ) → Record → Type 0
 NeedRoom order s n r = All (AuxRoom order s n) (vernauxs order s (needCount order s r) (r .aux))

@@ -1,9 +1,7 @@
 // The second pass: the entries of the definitions, then those of the needs. A refusal leaves the
 // store half filled.
-use super::highest::def_index;
 use super::highest::is_base;
 use super::highest::need_count;
-use super::highest::need_index;
 use super::records::Aux;
 use super::records::AuxStep;
 use super::records::Record;
@@ -31,6 +29,8 @@ use version::store::DEFINITION;
 use version::store::NEED;
 use version::store::Part;
 use version::store::Version;
+use version_layout::indices::def_index;
+use version_layout::indices::need_index;
 ghost use mathlib.Core.Path.{_≡_};
 ghost use mathlib.Core.Bool.{false};
 ghost use Prim.Native.Nat.{_≤_};
@@ -117,7 +117,7 @@ fn passed_over(order: Order, s: &[u8], def: Record) -> bool
     if is_base(order, s, def) {
         return true;
     }
-    if def_index(order, s, def).is_special() {
+    if def_index(order, s, def.at).is_special() {
         return true;
     }
     u16_at(order, s, def.at + 6) == 0
@@ -148,7 +148,7 @@ fn fill_def(order: Order, s: &[u8], strings: &[u8], def: Record, store: &mut [u3
         return Filled::Done;
     }
     put_version(
-        def_index(order, s, def),
+        def_index(order, s, def.at),
         def_version(order, s, strings, def),
         store,
     )
@@ -167,7 +167,7 @@ fn fill_aux(
     ensures { λ r. ⌜ filledOutcome r (now (store .exit))
         ≡ folded putEntry (now (store .entry)) (auxEntries order (now (s .entry)) (now (strings .entry)) file aux) ⌝ }
 {
-    let index = need_index(order, s, aux);
+    let index = need_index(order, s, aux.at);
     if index.is_special() {
         return Filled::Done;
     }
@@ -231,7 +231,7 @@ fn fill_needs(order: Order, s: &[u8], strings: &[u8], store: &mut [u32]) -> Fill
         ≡ folded putEntry (now (store .entry))
         (collect (needEntries order (now (s .entry)) (now (strings .entry))) (verneeds order (now (s .entry)) 0)) ⌝ }
 {
-    let mut at: usize = 0;
+    let mut at = 0;
     while at < s.len() {
         let step = record_at(VERNEED, order, s, at);
         let RecordStep::Is(need) = step else {

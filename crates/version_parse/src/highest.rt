@@ -1,5 +1,4 @@
 // The first pass: the highest index that the definitions and the needs name.
-use super::records::Aux;
 use super::records::AuxStep;
 use super::records::Record;
 use super::records::RecordStep;
@@ -14,6 +13,8 @@ use endian::kinds::Order;
 use endian::refusals::Refusal;
 use endian::words::u16_at;
 use version::index::VersionIndex;
+use version_layout::indices::def_index;
+use version_layout::indices::need_index;
 ghost use mathlib.Core.Path.{_≡_};
 ghost use Prim.Native.Nat.{_≤_};
 ghost use lib.ListN.{length};
@@ -21,7 +22,7 @@ ghost use Rattle.version_parse.specs.Outcome.Outcome.{fine};
 ghost use Rattle.version_parse.specs.Outcome.{folded};
 ghost use Rattle.version_parse.specs.Walk.{collect};
 ghost use Rattle.version_parse.specs.Records.{verdefs, verneeds, Within};
-ghost use Rattle.version_parse.specs.Highest.{isBase, defIndex, needIndex, needCount, higherOf, highOutcome, defIndices, needIndices, highest};
+ghost use Rattle.version_parse.specs.Highest.{isBase, needCount, higherOf, highOutcome, defIndices, needIndices, highest};
 
 pub(crate) enum High {
     Is(VersionIndex),
@@ -34,22 +35,6 @@ pub(crate) fn is_base(order: Order, s: &[u8], def: Record) -> bool
     ensures { λ r. ⌜ r ≡ isBase order (now (s .entry)) def ⌝ }
 {
     u16_at(order, s, def.at + 2) % 2 == 1
-}
-
-// The index of a definition: its whole 16 bits.
-pub(crate) fn def_index(order: Order, s: &[u8], def: Record) -> VersionIndex
-    requires { ⌜ def .at ≤ length (now s) ⌝ }
-    ensures { λ r. ⌜ r ≡ defIndex order (now (s .entry)) def ⌝ }
-{
-    VersionIndex(u16_at(order, s, def.at + 4))
-}
-
-// The index of a needed version: its low 15 bits.
-pub(crate) fn need_index(order: Order, s: &[u8], aux: Aux) -> VersionIndex
-    requires { ⌜ aux .at ≤ length (now s) ⌝ }
-    ensures { λ r. ⌜ r ≡ needIndex order (now (s .entry)) aux ⌝ }
-{
-    VersionIndex(u16_at(order, s, aux.at + 6) % 0x8000)
 }
 
 // How many versions a need has.
@@ -74,7 +59,7 @@ fn higher_def(order: Order, s: &[u8], def: Record, high: VersionIndex) -> Versio
     if is_base(order, s, def) {
         return high;
     }
-    higher(high, def_index(order, s, def))
+    higher(high, def_index(order, s, def.at))
 }
 
 // The highest index of the definitions.
@@ -110,7 +95,7 @@ fn highest_aux(order: Order, s: &[u8], need: Record, known: VersionIndex) -> Hig
         let AuxStep::Is(aux) = step else {
             return High::Refused(aux_refusal(step));
         };
-        high = higher(high, need_index(order, s, aux));
+        high = higher(high, need_index(order, s, aux.at));
         if aux.next == at {
             return High::Is(high);
         }

@@ -3,7 +3,7 @@
 use mathlib.Core.Path.{sym, ap, _∙_}
 use native.Mathlib.Omega.{arith}
 use borrow.Author.Tests.{lt-ltb, le-ltb, eq-eqb, ne-eqb, not-true, not-false}
-use Rattle.segment_parts.proofs.Inside.{in-file-true}
+use Rattle.segment_data.proofs.Inside.{in-file-true}
 use Rattle.segment_parts.proofs.Zero.{fromString, interpreter-string}
 use borrow.Author.Needs.{needs}
 use Rattle.segment_parts.proofs.interpreter.segment_interpreter.Statement.{statement}

@@ -28,12 +28,15 @@ returns-2 c =
     (sym (shaped .before .has-shape .ensures) ∙ not-false _ (shaped .if1 .left))
     (sym (c .before .names-readable .ensures) ∙ not-true _ (c .if2 .taken)))
 
-chains-hold-requires : tie.Need-chains-hold-requires
-chains-hold-requires c κs =
+sub-chains-hold : tie.Need-sub-chains-hold
+sub-chains-hold c =
     let shaped = c .before .before in
     let start = shaped .before .before .before .before .before in
     shaped-facts (start .args .header .«bucket_count») (start .args .header .«chain_count») (start .args .count) (start .args .low)
-    (sym (shaped .before .has-shape .ensures) ∙ not-false _ (shaped .if1 .left))
+    (sym (shaped .before .has-shape .ensures) ∙ not-false _ (shaped .if1 .left)) .1
+
+chains-hold-requires : tie.Need-chains-hold-requires
+chains-hold-requires c κs = search needs
 
 returns-3 : tie.Need-returns-3
 returns-3 c =
@@ -65,6 +68,7 @@ check-rules-spec =
     returns
     names-readable-requires
     returns-2
+    sub-chains-hold
     chains-hold-requires
     returns-3
     returns-4)

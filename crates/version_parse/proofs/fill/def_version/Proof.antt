@@ -6,7 +6,7 @@ use native.Mathlib.Nat.{add-zero}
 use Rattle.endian.specs.declared.kinds.Order.{Order}
 use Rattle.endian.specs.Refusals.{badVerdauxName}
 use Rattle.endian.specs.Word.{wordAt, fieldAt}
-use Rattle.version_parse.specs.Layouts.{verdaux}
+use Rattle.version_layout.specs.Layouts.{verdaux}
 use Rattle.version_parse.specs.Outcome.Outcome.{fine, stop}
 use Rattle.version_parse.specs.Records.{verdauxShape, auxAt, auxOutcome, auxRefusal}
 use Rattle.version.specs.Store.{noFile}

@@ -14,7 +14,8 @@ use Rattle.version.specs.Store.{putEntry}
 use Rattle.version_parse.specs.declared.fill.Filled.{Filled}
 use Rattle.version.specs.Index.{isSpecial}
 use Rattle.version_parse.specs.Records.{auxOutcome, auxRefusal, auxAt, vernauxShape, vernauxs}
-use Rattle.version_parse.specs.Highest.{needIndex, needCount}
+use Rattle.version_layout.specs.Indices.{needIndex}
+use Rattle.version_parse.specs.Highest.{needCount}
 use Rattle.version_parse.specs.Entries.{needVersion, auxEntries, needEntries, filledOutcome}
 use Rattle.version_parse.specs.Room.{All, AuxRoom}
 use Rattle.version_parse.specs.declared.records.Aux.{Aux}
@@ -180,7 +181,7 @@ returns-3 c =
     sym (counted-repeat putEntry (auxEntries (order k) (s k) (strings k) (file k)) (auxAt vernauxShape (order k) (s k))
     (λ a. a .next) (at k) (a k) (read k)
     (c .if1 .taken) (head k .loop .store) _ (left k) (k .before .before .before .loop-test .taken) once
-    (storing-again _ _ (isSpecial (needIndex (order k) (s k) (a k))) (needIndex (order k) (s k) (a k))
+    (storing-again _ _ (isSpecial (needIndex (order k) (s k) (a k .at))) (needIndex (order k) (s k) (a k .at))
     (needVersion (order k) (s k) (strings k) (file k) (a k)) once))
     ∙ whole (head k)
 

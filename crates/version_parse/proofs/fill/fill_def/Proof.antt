@@ -12,7 +12,7 @@ returns : tie.Need-returns
 returns c = storing-over _ _ _ _ (sym (c .before .passed-over .ensures) ∙ c .if1 .taken)
 
 def-index-requires : tie.Need-def-index-requires
-def-index-requires c κs = c .before .before .before .before .before .pre .0 .0
+def-index-requires c κs = search needs
 
 def-version-requires : tie.Need-def-version-requires
 def-version-requires c κs = search needs

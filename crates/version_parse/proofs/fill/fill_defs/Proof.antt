@@ -26,9 +26,9 @@ abbrev Inv-loop : tie.InvT-loop
 Inv-loop order s strings store₀ at₀ store at =
     (at ≤ length s)
     × (length store ≡ length store₀)
-    × All (DefRoom order s (length store₀)) (verdefs order s at)
     × (folded putEntry store (collect (defEntries order s strings) (verdefs order s at))
     ≡ folded putEntry store₀ (collect (defEntries order s strings) (verdefs order s 0)))
+    × All (DefRoom order s (length store₀)) (verdefs order s at)
 
 abbrev μ-loop : tie.MeasureT-loop
 μ-loop order s strings store₀ at₀ store at = length s - at
@@ -60,7 +60,7 @@ module _ (k : tie.After-step Inv-loop μ-loop) where
   walk = listed-more verdefShape order s at (k .before .before .before .loop-test .taken) r read
 
 loop-holds : tie.Need-loop-holds Inv-loop μ-loop
-loop-holds c = (search needs, refl, c .before .before .before .pre, refl)
+loop-holds c = (search needs, refl, refl, c .before .before .before .pre)
 
 record-at-requires : tie.Need-record-at-requires Inv-loop μ-loop
 record-at-requires c κs = search needs
@@ -88,14 +88,14 @@ returns c =
     (sym (c .record-refusal .ensures ∙ ap recordRefusal told)) in
     sym (collect-broken putEntry (defEntries (args .order) (args .s .now) (args .strings .now)) (head .loop .store) _ _
     (listed-stop verdefShape (args .order) (args .s .now) (head .loop .at) (called .before .loop-test .taken) _ refused))
-    ∙ head .loop .inv .3
+    ∙ head .loop .inv .2
 
 fill-def-requires : tie.Need-fill-def-requires Inv-loop μ-loop
 fill-def-requires c κs =
     let k = c .before .before in
     let inv = head k .loop .inv in (
       record-within verdefShape (order k) (s k) (at k) (r k) (read k) (inv .0),
-      rw (inv .1) (all-first (DefRoom (order k) (s k) _) _ (r k) _ (walk k) (inv .2)),
+      rw (inv .1) (all-first (DefRoom (order k) (s k) _) _ (r k) _ (walk k) (inv .3)),
     )
 
 enum-told-2 : tie.Need-enum-told-2 Inv-loop μ-loop
@@ -117,7 +117,7 @@ returns-2 c =
     told
     ∙ sym (collect-leave putEntry (defEntries (order k) (s k) (strings k)) (head k .loop .store) _ (r k) _ _ (walk k)
     (sym told ∙ called .fill-def .ensures))
-    ∙ head k .loop .inv .3
+    ∙ head k .loop .inv .2
 
 loop-less : tie.Need-loop-less Inv-loop μ-loop
 loop-less c =
@@ -134,10 +134,10 @@ loop-again c =
     let told = ap (λ (r : Filled). filledOutcome r (called .fill-def .last .1 .1 .1 .1 .0)) (c .enum-told2 .given .1) in (
       record-next verdefShape (order k) (s k) (at k) (r k) (read k) (inv .0),
       called .fill-def .kept .1 .1 .1 .1 .0 ∙ inv .1,
-      all-rest (DefRoom (order k) (s k) _) _ (r k) _ (walk k) (inv .2),
       sym (collect-turn putEntry (defEntries (order k) (s k) (strings k)) (head k .loop .store) _ (r k) _ _ (walk k)
           (sym told ∙ called .fill-def .ensures))
-          ∙ inv .3,
+          ∙ inv .2,
+      all-rest (DefRoom (order k) (s k) _) _ (r k) _ (walk k) (inv .3),
     )
 
 same-length-3 : tie.Need-same-length-3 Inv-loop μ-loop
@@ -149,7 +149,7 @@ returns-3 c =
     let args = head .before .before .before .before .args in
     sym (collect-end putEntry (defEntries (args .order) (args .s .now) (args .strings .now)) (head .loop .store) _
     (listed-end verdefShape (args .order) (args .s .now) (head .loop .at) (c .loop-test .left)))
-    ∙ head .loop .inv .3
+    ∙ head .loop .inv .2
 
 pub fill-defs-spec : {M : Type 1} → statement M
 fill-defs-spec =

@@ -26,9 +26,9 @@ abbrev Inv-loop : tie.InvT-loop
 Inv-loop order s strings store₀ at₀ store at =
     (at ≤ length s)
     × (length store ≡ length store₀)
-    × All (NeedRoom order s (length store₀)) (verneeds order s at)
     × (folded putEntry store (collect (needEntries order s strings) (verneeds order s at))
     ≡ folded putEntry store₀ (collect (needEntries order s strings) (verneeds order s 0)))
+    × All (NeedRoom order s (length store₀)) (verneeds order s at)
 
 abbrev μ-loop : tie.MeasureT-loop
 μ-loop order s strings store₀ at₀ store at = length s - at
@@ -60,7 +60,7 @@ module _ (k : tie.After-step Inv-loop μ-loop) where
   walk = listed-more verneedShape order s at (k .before .before .before .loop-test .taken) r read
 
 loop-holds : tie.Need-loop-holds Inv-loop μ-loop
-loop-holds c = (search needs, refl, c .before .before .before .pre, refl)
+loop-holds c = (search needs, refl, refl, c .before .before .before .pre)
 
 record-at-requires : tie.Need-record-at-requires Inv-loop μ-loop
 record-at-requires c κs = search needs
@@ -88,14 +88,14 @@ returns c =
     (sym (c .record-refusal .ensures ∙ ap recordRefusal told)) in
     sym (collect-broken putEntry (needEntries (args .order) (args .s .now) (args .strings .now)) (head .loop .store) _ _
     (listed-stop verneedShape (args .order) (args .s .now) (head .loop .at) (called .before .loop-test .taken) _ refused))
-    ∙ head .loop .inv .3
+    ∙ head .loop .inv .2
 
 fill-auxs-requires : tie.Need-fill-auxs-requires Inv-loop μ-loop
 fill-auxs-requires c κs =
     let k = c .before .before in
     let inv = head k .loop .inv in (
       record-within verneedShape (order k) (s k) (at k) (r k) (read k) (inv .0),
-      rw (inv .1) (all-first (NeedRoom (order k) (s k) _) _ (r k) _ (walk k) (inv .2)),
+      rw (inv .1) (all-first (NeedRoom (order k) (s k) _) _ (r k) _ (walk k) (inv .3)),
     )
 
 enum-told-2 : tie.Need-enum-told-2 Inv-loop μ-loop
@@ -117,7 +117,7 @@ returns-2 c =
     told
     ∙ sym (collect-leave putEntry (needEntries (order k) (s k) (strings k)) (head k .loop .store) _ (r k) _ _ (walk k)
     (sym told ∙ called .fill-auxs .ensures))
-    ∙ head k .loop .inv .3
+    ∙ head k .loop .inv .2
 
 loop-less : tie.Need-loop-less Inv-loop μ-loop
 loop-less c =
@@ -135,10 +135,10 @@ loop-again c =
     ap (λ (r : Filled). filledOutcome r (called .fill-auxs .last .1 .1 .1 .1 .0)) (c .enum-told2 .given .1) in (
       record-next verneedShape (order k) (s k) (at k) (r k) (read k) (inv .0),
       called .fill-auxs .kept .1 .1 .1 .1 .0 ∙ inv .1,
-      all-rest (NeedRoom (order k) (s k) _) _ (r k) _ (walk k) (inv .2),
       sym (collect-turn putEntry (needEntries (order k) (s k) (strings k)) (head k .loop .store) _ (r k) _ _ (walk k)
           (sym told ∙ called .fill-auxs .ensures))
-          ∙ inv .3,
+          ∙ inv .2,
+      all-rest (NeedRoom (order k) (s k) _) _ (r k) _ (walk k) (inv .3),
     )
 
 same-length-3 : tie.Need-same-length-3 Inv-loop μ-loop
@@ -150,7 +150,7 @@ returns-3 c =
     let args = head .before .before .before .before .args in
     sym (collect-end putEntry (needEntries (args .order) (args .s .now) (args .strings .now)) (head .loop .store) _
     (listed-end verneedShape (args .order) (args .s .now) (head .loop .at) (c .loop-test .left)))
-    ∙ head .loop .inv .3
+    ∙ head .loop .inv .2
 
 pub fill-needs-spec : {M : Type 1} → statement M
 fill-needs-spec =

@@ -6,7 +6,7 @@ use native.Mathlib.Nat.{add-zero}
 use Rattle.endian.specs.declared.kinds.Order.{Order}
 use Rattle.endian.specs.Refusals.{badVernauxName}
 use Rattle.endian.specs.Word.{wordAt, fieldAt}
-use Rattle.version_parse.specs.Layouts.{vernaux}
+use Rattle.version_layout.specs.Layouts.{vernaux}
 use Rattle.version_parse.specs.Outcome.Outcome.{fine}
 use Rattle.version_parse.specs.Entries.{needVersion, partAt, partOutcome}
 use Rattle.version_parse.specs.declared.records.Aux.{Aux}

@@ -102,9 +102,7 @@ returns c =
     ∙ whole head
 
 need-index-requires : tie.Need-need-index-requires Inv-loop μ-loop
-need-index-requires c κs =
-    let k = c .before in
-    aux-place vernauxShape (order k) (s k) (at k) (a k) (read k) (head k .loop .inv .0)
+need-index-requires c κs = search needs
 
 higher-requires : tie.Need-higher-requires Inv-loop μ-loop
 higher-requires c κs = search needs

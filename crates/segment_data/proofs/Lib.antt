@@ -1,0 +1,2 @@
+-- `Inside`: bytes in the file, by tests that cannot wrap.
+pub mod Inside

@@ -1,0 +1,2 @@
+-- `Entries`: the ends of dynamic entries, and their count.
+pub mod Entries

@@ -1,0 +1,2 @@
+// The dynamic entries that a segment holds.
+pub mod dynamic;
