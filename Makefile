@@ -2,6 +2,7 @@
 # make test   everything: the comparison with the original where it is at hand, the C and Rust tests
 #             of the archive, and last the gate
 # make record writes the lists of the replay programs anew, from the original
+# make speed  times the archive beside the original
 #
 # ORACLE is the folder of the original's build (../shared/oracle).
 
@@ -23,7 +24,8 @@ BUILT := release
 else
 TRIPLE := x86_64-unknown-linux-gnu
 RUSTC := $(firstword $(foreach r,$(shell which -a rustc),$(if $(wildcard $(shell $r --print target-libdir --target $(TRIPLE))/libstd-*),$r)))
-EMULATOR := qemu-x86_64 -L /usr/x86_64-linux-gnu
+# The loader of the libraries that the cross compiler has, unless those of x86-64 are installed.
+EMULATOR := qemu-x86_64 $(if $(wildcard /lib64/ld-linux-x86-64.so.2),,-L /usr/x86_64-linux-gnu)
 CC := x86_64-linux-gnu-gcc
 AR := x86_64-linux-gnu-ar
 TOOLS := $(and $(RUSTC),$(shell which $(CC)),$(shell which qemu-x86_64))
@@ -36,7 +38,7 @@ endif
 
 COMPARE := compare/target/$(BUILT)/compare
 
-.PHONY: run test archive calls comparison record gate clean
+.PHONY: run test archive calls comparison record speed gate clean
 
 run:
 	rt check show
@@ -70,17 +72,29 @@ comparison: $(COMPARE)
 record: $(COMPARE)
 	$(EMULATOR) $(COMPARE) --record crates
 
+# A time under an emulator says nothing.
+ifeq ($(EMULATOR),)
+speed: archive
+	ln -sfn $(abspath $(ORACLE)) compare/oracle
+	$(CARGO) build --offline --quiet --profile speed --manifest-path compare/Cargo.toml
+	compare/target/speed/compare --speed
+else
+speed:
+	@echo "A time under an emulator says nothing, and the archive is for x86-64: NO TIMES ARE TAKEN."
+	@echo "docs/SPEED.md has the last ones."
+endif
+
 .PHONY: $(COMPARE)
 $(COMPARE): archive
 	ln -sfn $(abspath $(ORACLE)) compare/oracle
 	$(CARGO) build --offline --quiet --release --manifest-path compare/Cargo.toml
 else
-comparison record:
+comparison record speed:
 	@echo "The original is not at hand ($(ORACLE)): NO COMPARISON WITH IT IS RUN."
-	@echo "docs/COMPARISON.md has the last one; the replay programs of the gate run its recorded answers."
+	@echo "docs/COMPARISON.md has the last one, docs/SPEED.md the last times; the replay programs of the gate run its recorded answers."
 endif
 else
-calls comparison record:
+calls comparison record speed:
 	@echo "The archive is for x86-64, and no cross compiler and emulator for it are at hand: $@ IS NOT RUN."
 	@echo "The replay programs of the gate run the original's recorded answers."
 endif

@@ -14,7 +14,7 @@ use fetulombo::{
 };
 
 pub fn compare(run: &mut Run) {
-    for turn in 0..120_000 * run.scale {
+    for turn in 0..run.times(120_000) {
         let (class, order) = KINDS[turn % 4];
         let shape = GnuShape::random(&mut run.random);
         let made = made_up(&mut run.random, class, order, shape.buckets, shape.base);
@@ -194,7 +194,7 @@ fn libraries(run: &mut Run) {
         if made.order == Order::Little {
             tried.push(turned(&made, &gnu, &sysv));
         }
-        for _ in 0..4 * run.scale {
+        for _ in 0..run.times(4) {
             let gnu = damaged_words(&mut run.random, made.order, &gnu);
             let sysv = damaged_words(&mut run.random, made.order, &sysv);
             tried.push((made.clone(), gnu, sysv));

@@ -13,7 +13,7 @@ pub fn compare(run: &mut Run) {
     for name in lists(&all, 2).into_iter().chain(lists(b"\0a\xff", 7)) {
         one(run, &name);
     }
-    for _ in 0..1_000_000 * run.scale {
+    for _ in 0..run.times(1_000_000) {
         let length = run.random.below(70);
         let zeros = run.random.of(&[4, 1000]);
         let name = run.random.bytes(length, zeros);

@@ -40,7 +40,7 @@ pub struct Asked {
 }
 
 pub fn compare(run: &mut Run) {
-    for turn in 0..40_000 * run.scale {
+    for turn in 0..run.times(40_000) {
         let (class, order) = KINDS[turn % 4];
         let shape = GnuShape::random(&mut run.random);
         let made = made_up(&mut run.random, class, order, shape.buckets, shape.base);
@@ -137,7 +137,7 @@ pub fn one(run: &mut Run, kind: Kind, made: &Symbols, table: &[u8], asked: &[Ask
     let theirs = theirs.as_ref().unwrap_or(&none);
     let versions = Versions {
         order: made.order,
-        versyms: if theirs.entries() == none.entries() && store.is_empty() {
+        versyms: if store.is_empty() && theirs.entries() == none.entries() {
             &[]
         } else {
             &made.versions.versyms
@@ -387,6 +387,7 @@ fn limits(run: &mut Run) {
     let long = vec![0; LIMIT + 1];
     for (length, refused) in [(LIMIT, false), (LIMIT + 1, true)] {
         let part = &long[..length];
+        long_tables(run, part, refused);
         for which in 0..7 {
             let lent = |k: usize| if which == k { part } else { &[0; 16][..] };
             let symbols = OurSymbols {
@@ -427,6 +428,30 @@ fn limits(run: &mut Run) {
     }
 }
 
+/// The lengths of a table of zeros.
+fn long_tables(run: &mut Run, table: &[u8], refused: bool) {
+    for (class, order) in KINDS {
+        let input = || format!("{class:?} {order:?} a table of {}", table.len());
+        let gnu = GnuTable::parse(class, order, table)
+            .and_then(|gnu| Ok((gnu.symbol_base().0, gnu.length()?)));
+        run.report.same(
+            "gnu base, length",
+            gnu.map_err(|refusal| refusal.number()),
+            if refused { Err(1) } else { Ok((0, None)) },
+            |_| "nothing",
+            input,
+        );
+        let sysv = SysvTable::parse(class, order, table).map(|sysv| sysv.length());
+        run.report.same(
+            "sysv length",
+            sysv.map_err(|refusal| refusal.number()),
+            if refused { Err(1) } else { Ok(0) },
+            |_| "length",
+            input,
+        );
+    }
+}
+
 /// Every name of real libraries with its own hash, with its own version, with another, and with
 /// none; absent names; wrong hashes; then damaged copies.
 fn libraries(run: &mut Run) {
@@ -439,9 +464,11 @@ fn libraries(run: &mut Run) {
             if table.is_empty() {
                 continue;
             }
-            let asked = names_of(run, kind, &made, usize::MAX);
+            // Every name, but for a run that copies the whole table at each call.
+            let most = if run.scale.1 == 1 { usize::MAX } else { 200 };
+            let asked = names_of(run, kind, &made, most);
             one(run, kind, &made, table, &asked);
-            for _ in 0..3 * run.scale {
+            for _ in 0..run.times(3) {
                 let damaged = damaged_words(&mut run.random, made.order, table);
                 let some: Vec<Asked> = (0..200)
                     .map(|_| asked[run.random.below(asked.len())].clone())
@@ -453,7 +480,7 @@ fn libraries(run: &mut Run) {
             let (made, gnu, sysv) = turned(&made, &gnu, &sysv);
             for (kind, table) in [(Kind::Gnu, gnu), (Kind::Sysv, sysv)] {
                 if !table.is_empty() {
-                    let asked = names_of(run, kind, &made, 500 * run.scale);
+                    let asked = names_of(run, kind, &made, run.times(500));
                     one(run, kind, &made, &table, &asked);
                 }
             }

@@ -3,7 +3,7 @@
 use crate::Run;
 use crate::inputs::{KINDS, Random, big, is64};
 use crate::libraries::NOTE;
-use crate::report::{Answer, hex};
+use crate::report::{Answer, fitting, hex};
 use fetulombo::{Class, LIMIT, Order, Properties};
 use oracle::{NoteInfo, NoteStep, PropertyStep, PropertyWalk};
 
@@ -271,7 +271,7 @@ pub fn property_bytes(random: &mut Random, order: Order) -> Vec<u8> {
 
 /// Sections of all shapes; and each from any place on, where what stands there is the first note.
 fn random(run: &mut Run) {
-    for turn in 0..200_000 * run.scale {
+    for turn in 0..run.times(200_000) {
         let (class, order) = KINDS[turn % 4];
         let align = run.random.of(&[4, 4, 8, 8, 0, 1, 5]);
         let bytes = section(&mut run.random, order, align, 4);
@@ -300,9 +300,31 @@ fn from(run: &mut Run, order: Order, align: u64, bytes: &[u8], place: usize) {
     walks(run, "note step, any place", "note", mine, theirs, input);
 }
 
+fn trimmed(run: &mut Run, name: &[u8], original: Answer<usize>) {
+    let ours = fetulombo::trimmed(name).map(|name| name.len());
+    run.report.same(
+        "trimmed",
+        ours.map_err(|refusal| refusal.number()),
+        original,
+        |&length| match length == name.len() {
+            true => "as it is",
+            false => "shorter",
+        },
+        || hex(name),
+    );
+}
+
 /// Names by themselves: only `GNU`, with any zeros after it, holds properties.
 fn names(run: &mut Run) {
     let names = crate::inputs::lists(b"\0GNU", 6);
+    for name in &names {
+        let note = encoded(Order::Little, 4, 1, name, b"");
+        let walk = oracle::notes(true, false, 4, &note).expect("an alignment that passes");
+        let NoteStep::Note(info) = &walk.steps[0] else {
+            panic!("one note");
+        };
+        trimmed(run, name, Ok(info.trimmed));
+    }
     for (class, order) in KINDS {
         for name in &names {
             for kind in [4, 5] {
@@ -318,7 +340,7 @@ fn names(run: &mut Run) {
 }
 
 fn properties(run: &mut Run) {
-    for turn in 0..200_000 * run.scale {
+    for turn in 0..run.times(200_000) {
         let (class, order) = KINDS[turn % 4];
         let descriptor = property_bytes(&mut run.random, order);
         let descriptor = match run.random.below(3) {
@@ -353,6 +375,34 @@ fn limits(run: &mut Run) {
             };
             kinds(run, ours, original, || format!("parts of {length}"));
         }
+        let part = &long[..length];
+        let input = || format!("a part of {length}");
+        // Its last byte that is not 0 is number 6.
+        trimmed(run, part, fitting(length, 7));
+        let number = fetulombo::property_number(Order::Little, part).map_err(|r| r.number());
+        run.report.same(
+            "property_number",
+            number,
+            fitting(length, 0),
+            |_| "number",
+            input,
+        );
+        // The package's walk is refused before its first step.
+        // Safety: the slice is lent for the call.
+        let step = unsafe {
+            crate::edges::__wrap_fetulombo_property_step(1, 0, part.as_ptr(), part.len(), length)
+        };
+        let step = match step.0[0] as u32 {
+            0 => Ok(None::<()>),
+            number => Err(number),
+        };
+        run.report.same(
+            "property step",
+            step,
+            fitting(length, None),
+            |_| "end",
+            input,
+        );
     }
 }
 
@@ -370,7 +420,7 @@ fn libraries(run: &mut Run) {
             for (class, _) in KINDS {
                 one(run, class, order, section.align, bytes);
             }
-            for _ in 0..200 * run.scale {
+            for _ in 0..run.times(200) {
                 let damaged = run.random.damaged(bytes);
                 let (class, order) = run.random.of(&KINDS);
                 one(run, class, order, section.align, &damaged);

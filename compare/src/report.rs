@@ -6,6 +6,14 @@ use std::fmt::Debug;
 /// The original's answer, or ours: a refusal is its number.
 pub type Answer<T> = Result<T, u32>;
 
+/// The answer if a part of so many bytes is within the limit, and 1 if it is not.
+pub fn fitting<T>(length: usize, answer: T) -> Answer<T> {
+    match length <= fetulombo::LIMIT {
+        true => Ok(answer),
+        false => Err(1),
+    }
+}
+
 /// How many differences are printed in full.
 const SHOWN: u64 = 20;
 
@@ -42,7 +50,7 @@ impl Report {
     ) {
         let kind = match &ours {
             Ok(value) => kind(value).to_owned(),
-            Err(number) => format!("refused {number:2}"),
+            Err(number) => refused(*number),
         };
         let tally = self.tally(name);
         tally.inputs += 1;
@@ -87,7 +95,27 @@ impl Report {
             );
         }
         println!("| all | {inputs} | | {} |", self.differences());
+        self.print_refusals();
     }
+
+    /// In how many answers each refusal came, over all entry points.
+    fn print_refusals(&self) {
+        let count = |number: u32| -> u64 {
+            let kind = refused(number);
+            let tallies = self.tallies.values();
+            tallies.filter_map(|tally| tally.kinds.get(&kind)).sum()
+        };
+        println!();
+        println!("| refusal | answers |");
+        println!("|---:|---:|");
+        for number in 1..=37 {
+            println!("| {number} | {} |", count(number));
+        }
+    }
+}
+
+fn refused(number: u32) -> String {
+    format!("refused {number:2}")
 }
 
 /// Bytes in hex; long ones by their length and their ends.

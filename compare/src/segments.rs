@@ -311,7 +311,7 @@ fn meanings(run: &mut Run) {
         meaning(run, segment(kind, kind));
         meaning(run, segment(kind, kind << 29));
     }
-    for _ in 0..10_000 * run.scale {
+    for _ in 0..run.times(10_000) {
         let (kind, flags) = (run.random.near(&[2, 3]) as u32, run.random.next() as u32);
         meaning(run, segment(kind, flags));
     }
@@ -428,7 +428,7 @@ pub fn asked(random: &mut Random, fields: &SegmentFields) -> (u64, u64) {
 }
 
 fn random(run: &mut Run) {
-    for turn in 0..300_000 * run.scale {
+    for turn in 0..run.times(300_000) {
         let (class, order) = KINDS[turn % 4];
         let length = run.random.below(80);
         let zeros = run.random.of(&[2, 12, 100]);
@@ -527,7 +527,7 @@ fn libraries(run: &mut Run) {
             }
             ranges(run, library, &fields);
         }
-        for _ in 0..run.scale {
+        for _ in 0..run.times(1) {
             let file = run.random.damaged(&library.bytes);
             for _ in 0..200 {
                 let table = run.random.damaged(table);

@@ -79,7 +79,7 @@ fn short(run: &mut Run) {
 }
 
 fn random(run: &mut Run) {
-    for _ in 0..2_000_000 * run.scale {
+    for _ in 0..run.times(2_000_000) {
         let length = run.random.below(100);
         let zeros = run.random.of(&[2, 10, 1000]);
         let strings = run.random.bytes(length, zeros);
@@ -121,7 +121,7 @@ fn libraries(run: &mut Run) {
         for section in library.sections.iter().filter(|s| s.kind == STRTAB) {
             let strings = library.part(section);
             let damaged = run.random.damaged(strings);
-            for _ in 0..1000 * run.scale {
+            for _ in 0..run.times(1000) {
                 let offset = run.random.below(strings.len() + 3) as u32;
                 at(run, strings, offset);
                 at(run, &damaged, offset);

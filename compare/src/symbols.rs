@@ -94,7 +94,7 @@ fn count(run: &mut Run, class: Class, symbols: &[u8]) {
 /// Tables of every length up to some records, with numbers around their count and names around the
 /// end of the strings.
 fn random(run: &mut Run) {
-    for turn in 0..1_000_000 * run.scale {
+    for turn in 0..run.times(1_000_000) {
         let (class, order) = KINDS[turn % 4];
         let length = run.random.below(size(class) * 4);
         let mut symbols = run.random.bytes(length, 4);
@@ -187,7 +187,7 @@ fn libraries(run: &mut Run) {
             let records = (symbols.len() / size(class)) as u32;
             let damaged_symbols = run.random.damaged(symbols);
             let damaged_strings = run.random.damaged(strings);
-            for _ in 0..1000 * run.scale {
+            for _ in 0..run.times(1000) {
                 let index = run.random.below(records as usize + 2) as u32;
                 one(run, class, order, symbols, strings, index);
                 one(run, class, order, &damaged_symbols, &damaged_strings, index);

@@ -4,21 +4,32 @@
 use crate::Run;
 use crate::inputs::{Random, big};
 use crate::libraries::{VERDEF, VERNEED, VERSYM};
-use crate::report::{Answer, hex};
+use crate::report::{Answer, fitting, hex};
 use fetulombo::{
     ENTRY, LARGEST_STORE, LIMIT, Needed, Order, SymbolIndex, Version, VersionIndex, Versions,
 };
 use oracle::Entry;
 
 pub fn compare(run: &mut Run) {
-    for turn in 0..150_000 * run.scale {
+    for turn in 0..run.times(150_000) {
         let order = [Order::Little, Order::Big][turn % 2];
         let parts = made_up(&mut run.random, order);
+        if costly(order, &parts) && run.random.below(COSTLY) != 0 {
+            continue;
+        }
         one(run, order, &parts, turn % 2_000 == 0);
     }
     stores(run);
     limits(run);
     libraries(run);
+}
+
+/// Of the made-up tables that are costly, one in so many is run.
+const COSTLY: usize = 16;
+
+/// Whether a table has an index above 300: the oracle counts its entries slowly.
+fn costly(order: Order, parts: &Parts) -> bool {
+    parsed(order, parts, 300 * ENTRY).0 == Err(22)
 }
 
 /// The parts of a version table.
@@ -234,16 +245,16 @@ fn symbols(run: &mut Run, versions: Versions<'_>, theirs: &oracle::Versions<'_>,
 
 /// Stores of exactly the size, of one number less, and of more.
 fn stores(run: &mut Run) {
-    for turn in 0..20_000 * run.scale {
+    for turn in 0..run.times(20_000) {
         let order = [Order::Little, Order::Big][turn % 2];
         let parts = made_up(&mut run.random, order);
+        if costly(order, &parts) {
+            continue;
+        }
         let Ok(versions) = original(order, &parts, false) else {
             continue;
         };
         let entries = versions.entries();
-        if entries > 2_000 {
-            continue;
-        }
         let needed = entries * ENTRY;
         for room in [0, needed - 1, needed, needed + 1, needed + 5] {
             let (ours, store) = parsed(order, &parts, room);
@@ -316,6 +327,77 @@ fn limits(run: &mut Run) {
             run.report
                 .same("versions_parse", ours, original, |_| "table", input);
         }
+    }
+    long_tables(run, &long);
+}
+
+/// What a version table of one definition answers when one of its parts is of the limit or longer.
+fn long_tables(run: &mut Run, long: &[u8]) {
+    let store = [0, 0, 0, 0, 0, 0, 0, 0, 0, 0, 0, 0, 1, 7, 0, 0, 0, 0];
+    for length in [LIMIT - 1, LIMIT, LIMIT + 1] {
+        let input = || format!("a part of {length}");
+        let part = &long[..length];
+        let versions = Versions {
+            order: Order::Little,
+            versyms: &[2, 0],
+            store: &store,
+            strings: part,
+        };
+        let entry = versions.entry(VersionIndex(2)).map_err(|r| r.number());
+        let definition = Some(Version::Definition {
+            hash: 7,
+            name: 0..0,
+        });
+        run.report.same(
+            "version entry",
+            entry,
+            fitting(length, definition),
+            |_| "definition",
+            input,
+        );
+        let need = |name| Some(Needed { name, hash: 7 });
+        for (versions, need, yes) in [
+            (versions, need(&[]), true),
+            (
+                Versions {
+                    versyms: part,
+                    strings: &[],
+                    ..versions
+                },
+                None,
+                true,
+            ),
+            (
+                Versions {
+                    strings: &[],
+                    ..versions
+                },
+                need(part),
+                false,
+            ),
+        ] {
+            let kind = |&yes: &bool| match (need.is_some(), yes) {
+                (false, _) => "no need: yes",
+                (true, true) => "need: yes",
+                (true, false) => "need: no",
+            };
+            let ours = versions.matches(SymbolIndex(0), need);
+            let ours = ours.map_err(|r| r.number());
+            run.report
+                .same("version matches", ours, fitting(length, yes), kind, input);
+        }
+        let versions = Versions {
+            versyms: part,
+            ..versions
+        };
+        let versym = versions.version_of(SymbolIndex(0));
+        run.report.same(
+            "version_of",
+            versym.map(|versym| versym.index.0).map_err(|r| r.number()),
+            fitting(length, 0),
+            |_| "not hidden",
+            input,
+        );
     }
 }
 
@@ -524,12 +606,13 @@ pub fn big_parts(parts: &Parts) -> Parts {
 /// Real tables, as they stand, damaged, and in the other order.
 fn libraries(run: &mut Run) {
     let libraries = std::mem::take(&mut run.libraries);
-    for library in &libraries {
+    for (turn, library) in libraries.iter().enumerate() {
         let order = if library.big {
             Order::Big
         } else {
             Order::Little
         };
+        let whole = turn % 8 == 0;
         let first = |kind| library.linked(kind).next();
         let (verdef, verneed) = (first(VERDEF), first(VERNEED));
         let Some((_, strings)) = verdef.or(verneed) else {
@@ -543,11 +626,11 @@ fn libraries(run: &mut Run) {
             verneed: section(verneed),
             strings: strings.to_vec(),
         };
-        one(run, order, &parts, true);
+        one(run, order, &parts, whole);
         if order == Order::Little {
-            one(run, Order::Big, &big_parts(&parts), true);
+            one(run, Order::Big, &big_parts(&parts), whole);
         }
-        for _ in 0..20 * run.scale {
+        for _ in 0..run.times(20) {
             let mut damaged = parts.clone();
             match run.random.below(4) {
                 0 => damaged.verdef = run.random.damaged(&parts.verdef),

@@ -12,7 +12,7 @@ pub fn compare(run: &mut Run) {
             one(run, &bytes, at);
         }
     }
-    for _ in 0..1_000_000 * run.scale {
+    for _ in 0..run.times(1_000_000) {
         let length = run.random.below(20);
         let bytes = run.random.bytes(length, 8);
         let at = run.random.near(&[0, length as u64, u64::MAX]) as usize;

@@ -1,0 +1,316 @@
+//! Parts at the edge of readable memory. Every call of the archive goes through here (build.rs). In a
+//! default run it goes on as it is; otherwise each part, wanted names and the store among them, is
+//! copied to where a read past it is caught, and lent from there.
+
+use fetulombo::LIMIT;
+use std::cell::RefCell;
+use std::ffi::{c_int, c_void};
+use std::sync::atomic::{AtomicU8, Ordering};
+
+/// Where the parts of a call stand.
+#[derive(Clone, Copy, PartialEq, Eq)]
+#[repr(u8)]
+pub enum Placing {
+    /// Where the comparison has them.
+    Anywhere,
+    /// Each at the end of a page, before one without access.
+    End,
+    /// Each at the start of a page, after one without access.
+    Start,
+    /// Each in a block of the heap of exactly its size, for a memory checker.
+    Blocks,
+}
+
+static PLACING: AtomicU8 = AtomicU8::new(Placing::Anywhere as u8);
+
+pub fn place_parts(placing: Placing) {
+    PLACING.store(placing as u8, Ordering::Relaxed);
+}
+
+/// One page without access, room for the longest part, and one more such page.
+struct Area {
+    room: *mut u8,
+}
+
+/// A multiple of the page's size on any machine that this runs on.
+const PAGE: usize = 1 << 16;
+const ROOM: usize = LIMIT + PAGE;
+
+/// As many as the parts of the call that has the most.
+const AREAS: usize = 8;
+
+unsafe extern "C" {
+    fn mmap(
+        at: *mut c_void,
+        length: usize,
+        access: c_int,
+        flags: c_int,
+        file: c_int,
+        offset: i64,
+    ) -> *mut c_void;
+    fn mprotect(at: *mut c_void, length: usize, access: c_int) -> c_int;
+}
+
+impl Area {
+    fn new() -> Self {
+        const NO_ACCESS: c_int = 0;
+        const READ_AND_WRITE: c_int = 3;
+        // Private, of no file, and without a reserve.
+        const FLAGS: c_int = 0x4022;
+        // Safety: fresh memory, of which the middle is opened.
+        unsafe {
+            let all = mmap(
+                std::ptr::null_mut(),
+                ROOM + 2 * PAGE,
+                NO_ACCESS,
+                FLAGS,
+                -1,
+                0,
+            );
+            assert_ne!(all as isize, -1, "no memory");
+            let room = all.byte_add(PAGE);
+            assert_eq!(mprotect(room, ROOM, READ_AND_WRITE), 0);
+            Area { room: room.cast() }
+        }
+    }
+}
+
+thread_local! {
+    static ALL: RefCell<Vec<Area>> = RefCell::new((0..AREAS).map(|_| Area::new()).collect());
+}
+
+/// The parts of one call.
+struct Call {
+    placing: u8,
+    parts: usize,
+    blocks: Vec<Vec<u8>>,
+    /// The store where the caller has it, where it is lent from, and its bytes.
+    store: Option<(*mut u8, *const u8, usize)>,
+}
+
+impl Call {
+    fn new() -> Self {
+        Call {
+            placing: PLACING.load(Ordering::Relaxed),
+            parts: 0,
+            blocks: Vec::new(),
+            store: None,
+        }
+    }
+
+    /// Where a part is lent from.
+    ///
+    /// # Safety
+    /// It has so many bytes.
+    unsafe fn lent(&mut self, part: *const u8, bytes: usize) -> *mut u8 {
+        if self.placing == Placing::Anywhere as u8 {
+            return part.cast_mut();
+        }
+        let to = if self.placing == Placing::Blocks as u8 {
+            self.blocks.push(Vec::with_capacity(bytes));
+            match bytes {
+                0 => std::ptr::without_provenance_mut(16),
+                _ => self.blocks[self.parts].as_mut_ptr(),
+            }
+        } else {
+            let room = ALL.with_borrow(|areas| areas[self.parts].room);
+            let at_end = self.placing == Placing::End as u8;
+            room.wrapping_add(if at_end { ROOM - bytes } else { 0 })
+        };
+        self.parts += 1;
+        // Safety: there is room for so many, apart from the caller's.
+        unsafe { part.copy_to_nonoverlapping(to, bytes) };
+        to
+    }
+}
+
+impl Drop for Call {
+    /// What was written to the store goes back to the caller's.
+    fn drop(&mut self) {
+        if let Some((caller, lent, bytes)) = self.store
+            && caller.cast_const() != lent
+        {
+            // Safety: as in `lent`.
+            unsafe { lent.copy_to_nonoverlapping(caller, bytes) };
+        }
+    }
+}
+
+/// An answer of so many words, in the order of the header's fields: all are handed back through memory.
+#[repr(C)]
+pub struct Answer<const WORDS: usize>(pub [u64; WORDS]);
+
+/// The functions as the header has them. `[u8]` and `[u32]` are a pointer and a length; `[mut]` is the
+/// store that is written. The number is that of the answer's words.
+macro_rules! wrapped {
+    ($($wrap:ident $real:ident ($($name:ident: $kind:tt),*) $words:literal;)*) => {
+        $(wrapped!(@ $wrap $real $words ($($name: $kind,)*) () () () call);)*
+    };
+    (@ $wrap:ident $real:ident $words:literal ($name:ident: [u8], $($rest:tt)*)
+        ($($taken:tt)*) ($($lent:tt)*) ($($given:tt)*) $call:ident) => {
+        wrapped!(@ $wrap $real $words ($($rest)*)
+            ($($taken)* $name: *const u8, length: usize,)
+            ($($lent)* let $name = unsafe { $call.lent($name, length) };)
+            ($($given)* $name, length,) $call);
+    };
+    (@ $wrap:ident $real:ident $words:literal ($name:ident: [u32], $($rest:tt)*)
+        ($($taken:tt)*) ($($lent:tt)*) ($($given:tt)*) $call:ident) => {
+        wrapped!(@ $wrap $real $words ($($rest)*)
+            ($($taken)* $name: *const u32, length: usize,)
+            ($($lent)* let $name = unsafe { $call.lent($name.cast(), length * 4) }.cast();)
+            ($($given)* $name, length,) $call);
+    };
+    (@ $wrap:ident $real:ident $words:literal ($name:ident: [mut], $($rest:tt)*)
+        ($($taken:tt)*) ($($lent:tt)*) ($($given:tt)*) $call:ident) => {
+        wrapped!(@ $wrap $real $words ($($rest)*)
+            ($($taken)* $name: *mut u32, length: usize,)
+            ($($lent)*
+                let lent = unsafe { $call.lent($name.cast(), length * 4) };
+                $call.store = Some(($name.cast(), lent, length * 4));)
+            ($($given)* lent.cast(), length,) $call);
+    };
+    (@ $wrap:ident $real:ident $words:literal ($name:ident: $kind:ident, $($rest:tt)*)
+        ($($taken:tt)*) ($($lent:tt)*) ($($given:tt)*) $call:ident) => {
+        wrapped!(@ $wrap $real $words ($($rest)*)
+            ($($taken)* $name: $kind,) ($($lent)*) ($($given)* $name,) $call);
+    };
+    (@ $wrap:ident $real:ident $words:literal ()
+        ($($taken:tt)*) ($($lent:tt)*) ($($given:tt)*) $call:ident) => {
+        unsafe extern "C" {
+            pub fn $real($($taken)*) -> Answer<$words>;
+        }
+        /// # Safety
+        /// As the header says.
+        #[unsafe(no_mangle)]
+        pub unsafe extern "C" fn $wrap($($taken)*) -> Answer<$words> {
+            let mut $call = Call::new();
+            $($lent)*
+            unsafe { $real($($given)*) }
+        }
+    };
+}
+
+wrapped! {
+    __wrap_fetulombo_u16_at __real_fetulombo_u16_at(order: u8, bytes: [u8], at: usize) 3;
+    __wrap_fetulombo_u32_at __real_fetulombo_u32_at(order: u8, bytes: [u8], at: usize) 3;
+    __wrap_fetulombo_u64_at __real_fetulombo_u64_at(order: u8, bytes: [u8], at: usize) 3;
+    __wrap_fetulombo_string_at __real_fetulombo_string_at(strings: [u8], offset: u32) 3;
+    __wrap_fetulombo_string_equals __real_fetulombo_string_equals(
+        strings: [u8], offset: u32, name: [u8]
+    ) 3;
+    __wrap_fetulombo_gnu_hash __real_fetulombo_gnu_hash(name: [u8]) 3;
+    __wrap_fetulombo_sysv_hash __real_fetulombo_sysv_hash(name: [u8]) 3;
+    __wrap_fetulombo_symbol_count __real_fetulombo_symbol_count(class: u8, symbols: [u8]) 3;
+    __wrap_fetulombo_symbol_at __real_fetulombo_symbol_at(
+        class: u8, order: u8, symbols: [u8], index: u32
+    ) 4;
+    __wrap_fetulombo_symbol_name __real_fetulombo_symbol_name(
+        class: u8, order: u8, symbols: [u8], strings: [u8], index: u32
+    ) 3;
+    __wrap_fetulombo_symbol_is_definition __real_fetulombo_symbol_is_definition(
+        strings: [u8], name: u32, info: u8, shndx: u16
+    ) 3;
+    __wrap_fetulombo_note_step __real_fetulombo_note_step(
+        order: u8, align: u64, bytes: [u8], at: usize
+    ) 7;
+    __wrap_fetulombo_trimmed __real_fetulombo_trimmed(name: [u8]) 3;
+    __wrap_fetulombo_gnu_properties __real_fetulombo_gnu_properties(
+        class: u8, order: u8, kind: u32, name: [u8], descriptor: [u8]
+    ) 3;
+    __wrap_fetulombo_property_step __real_fetulombo_property_step(
+        class: u8, order: u8, descriptor: [u8], at: usize
+    ) 5;
+    __wrap_fetulombo_property_number __real_fetulombo_property_number(order: u8, part: [u8]) 3;
+    __wrap_fetulombo_versions_parse __real_fetulombo_versions_parse(
+        order: u8, verdef: [u8], verneed: [u8], strings: [u8], store: [mut]
+    ) 3;
+    __wrap_fetulombo_version_entry __real_fetulombo_version_entry(
+        store: [u32], strings: [u8], index: u16
+    ) 4;
+    __wrap_fetulombo_version_of __real_fetulombo_version_of(
+        order: u8, versyms: [u8], symbol: u32
+    ) 3;
+    __wrap_fetulombo_version_matches __real_fetulombo_version_matches(
+        order: u8, versyms: [u8], store: [u32], strings: [u8], symbol: u32, needed: u8,
+        hash: u32, name: [u8]
+    ) 3;
+    __wrap_fetulombo_gnu_find __real_fetulombo_gnu_find(
+        class: u8, order: u8, table: [u8], symbols: [u8], strings: [u8], versyms: [u8],
+        store: [u32], version_strings: [u8], name: [u8], hash: u32, needed: u8, need_hash: u32,
+        need_name: [u8]
+    ) 3;
+    __wrap_fetulombo_sysv_find __real_fetulombo_sysv_find(
+        class: u8, order: u8, table: [u8], symbols: [u8], strings: [u8], versyms: [u8],
+        store: [u32], version_strings: [u8], name: [u8], hash: u32, needed: u8, need_hash: u32,
+        need_name: [u8]
+    ) 3;
+    __wrap_fetulombo_gnu_base __real_fetulombo_gnu_base(class: u8, order: u8, table: [u8]) 3;
+    __wrap_fetulombo_gnu_length __real_fetulombo_gnu_length(class: u8, order: u8, table: [u8]) 3;
+    __wrap_fetulombo_sysv_length __real_fetulombo_sysv_length(order: u8, table: [u8]) 3;
+    __wrap_fetulombo_gnu_check __real_fetulombo_gnu_check(
+        class: u8, order: u8, table: [u8], symbols: [u8], strings: [u8]
+    ) 3;
+    __wrap_fetulombo_sysv_check __real_fetulombo_sysv_check(
+        class: u8, order: u8, table: [u8], symbols: [u8], strings: [u8]
+    ) 3;
+    __wrap_fetulombo_segment_count __real_fetulombo_segment_count(class: u8, table: [u8]) 3;
+    __wrap_fetulombo_segment_at __real_fetulombo_segment_at(
+        class: u8, order: u8, table: [u8], number: u32
+    ) 8;
+    __wrap_fetulombo_segment_data __real_fetulombo_segment_data(
+        file: [u8], offset: u64, filesz: u64
+    ) 3;
+    __wrap_fetulombo_segment_data_range __real_fetulombo_segment_data_range(
+        file: [u8], offset: u64, vaddr: u64, filesz: u64, address: u64, size: u64
+    ) 4;
+    __wrap_fetulombo_segment_dynamic __real_fetulombo_segment_dynamic(
+        class: u8, file: [u8], kind: u32, offset: u64, filesz: u64
+    ) 4;
+    __wrap_fetulombo_segment_dynamic_entry __real_fetulombo_segment_dynamic_entry(
+        class: u8, order: u8, bytes: [u8], number: u32
+    ) 3;
+    __wrap_fetulombo_segment_interpreter __real_fetulombo_segment_interpreter(
+        file: [u8], kind: u32, offset: u64, filesz: u64
+    ) 4;
+    __wrap_fetulombo_segment_notes __real_fetulombo_segment_notes(
+        file: [u8], kind: u32, offset: u64, filesz: u64, align: u64
+    ) 4;
+}
+
+unsafe extern "C" {
+    fn fork() -> c_int;
+    fn waitpid(child: c_int, status: *mut c_int, options: c_int) -> c_int;
+    fn _exit(status: c_int) -> !;
+}
+
+/// Whether reading the byte beside a part ends the program: a copy of it tries.
+fn caught(placing: Placing, length: usize) -> bool {
+    const SEGMENTATION_FAULT: c_int = 11;
+    place_parts(placing);
+    let mut status = 0;
+    // Safety: there is one thread; the copy only reads where it may not, and ends.
+    unsafe {
+        let child = fork();
+        if child == 0 {
+            let part = Call::new().lent([7; 100].as_ptr(), length);
+            let beside = match placing {
+                Placing::Start => part.wrapping_sub(1),
+                _ => part.wrapping_add(length),
+            };
+            beside.read_volatile();
+            _exit(0);
+        }
+        assert_eq!(waitpid(child, &mut status, 0), child);
+    }
+    status & 0x7f == SEGMENTATION_FAULT
+}
+
+/// Tries the guards themselves: one byte past a part, one byte before it.
+pub fn try_guards() {
+    for length in [0, 1, 5, 100] {
+        for placing in [Placing::End, Placing::Start] {
+            assert!(caught(placing, length), "a read beside a part passed");
+        }
+    }
+    println!("a byte past a part, and one before it: reading it ends the program (SIGSEGV)");
+}
