@@ -1,2 +1,3 @@
--- `Table`: the cases that document 01 marks [P].
+-- `Table`: the cases that document 01 marks [P]. `Unmarked`: one that stands beside them.
 mod Table
+mod Unmarked

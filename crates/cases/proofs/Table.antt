@@ -1,4 +1,13 @@
--- The cases that document 01 marks [P] (its section "Cases"), in its order: what the rules give, beside what the document says.
+-- The cases that document 01 marks [P] (its section "Cases"), in its order and no others: what the rules give, beside what the document says.
+--     gnu-hashes        GNU hash: empty 5381; `a` 177670; `b` 177671; `ab` 5863208
+--     sysv-hashes       SysV: empty 0; `a` 97; `ab` 1650
+--     gnu-accepted      ELF32, symbols null and `a`, ..: accepted
+--     gnu-lookups       `a` found at 1, 1 probe; `b` none, 0 probes; bloom all ones: `b` none, 1 probe
+--     notes-of-4        Note bytes, align 4: 0 is the end; 11 gives 2; 12 zeros one note; 13 .. gives 4; 17 .. is a note
+--     notes-of-8        Align 8: 12 zeros give 4, 16 one note
+--     properties        Property size 4: ELF64 with 12 bytes gives 6, 16 is read; ELF32 reads 12
+--     hidden-version    Versym 0x8002, entry 2 valid: without need no, with equal need yes
+--     no-versym         No versym: without need yes, with need no
 -- Assumes nothing.
 use Prim.Native.Nat.{ℕ, _/_, _%_}
 use mathlib.Core.Path.{_≡_, refl}
@@ -9,7 +18,7 @@ use Rattle.endian.specs.declared.kinds.Class.the-variants.{Elf32, Elf64}
 use Rattle.endian.specs.declared.kinds.Order.{Order}
 use Rattle.endian.specs.declared.kinds.Order.the-variants.{Little, Big}
 use Rattle.endian.specs.First.{first}
-use Rattle.endian.specs.Refusals.{noteShort, badNoteDescriptor, badNoteAlignment, badProperty}
+use Rattle.endian.specs.Refusals.{noteShort, badNoteDescriptor, badProperty}
 use Rattle.endian.specs.Word.{wordAt}
 use Rattle.gnu.specs.Find.{gnuFind}
 use Rattle.gnu.specs.Lookup.{startOf, lookup}
@@ -124,11 +133,6 @@ notes-of-8 : (order : Order)
 unfolding zeros note wordAt noteStep notesWithin notesFrom
 notes-of-8 Little = (refl, refl)
 notes-of-8 Big = (refl, refl)
-
--- alignment 5 or 16 gives 5
-notes-of-others : (order : Order)
-    → (sectionNotes order 5 [] ≡ none (stopped badNoteAlignment)) × (sectionNotes order 16 [] ≡ none (stopped badNoteAlignment))
-notes-of-others order = (refl, refl)
 
 -- a property of type 0 and size 4, with so many bytes after its size
 property : Property
