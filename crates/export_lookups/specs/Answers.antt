@@ -7,7 +7,7 @@
 use Rattle.lookup.specs.declared.Answer.{Answer}
 use Rattle.gnu_table.specs.declared.header.HeaderAt.{HeaderAt}
 use Rattle.gnu_length.specs.declared.TableLength.{TableLength}
-use Rattle.sysv.specs.declared.length.ChainCount.{ChainCount}
+use Rattle.sysv_header.specs.declared.length.ChainCount.{ChainCount}
 use Rattle.export.specs.Answers.{number, noNumber}
 use Rattle.export.specs.declared.answers.NumberAnswer.{NumberAnswer}
 use Rattle.export_lookups.specs.declared.LookupAnswer.{LookupAnswer}

@@ -8,13 +8,14 @@ use export_versions::need_of;
 use gnu_length::TableLength;
 use gnu_table::header::HeaderAt;
 use lookup::Answer;
-use sysv::length::ChainCount;
+use sysv_header::length::ChainCount;
 ghost use mathlib.Core.Path.{_≡_};
 ghost use Rattle.lookup.specs.Wanted.{Parts, Asked};
 ghost use Rattle.gnu.specs.Find.{gnuFind};
 ghost use Rattle.gnu_length.specs.Length.{gnuLength};
 ghost use Rattle.gnu_table.specs.Header.{gnuHeader};
-ghost use Rattle.sysv.specs.Find.{sysvFind, sysvLength};
+ghost use Rattle.sysv_header.specs.Header.{sysvLength};
+ghost use Rattle.sysv.specs.Find.{sysvFind};
 ghost use Rattle.export.specs.Answers.{classOf, orderOf};
 ghost use Rattle.export_versions.specs.Answers.{needOf};
 ghost use Rattle.export_lookups.specs.Answers.{lookupAnswer, baseAnswer, gnuLengthAnswer, sysvLengthAnswer};
@@ -201,7 +202,7 @@ pub extern "C" fn fetulombo_gnu_length(class: u8, order: u8, table: &[u8]) -> Le
 pub extern "C" fn fetulombo_sysv_length(order: u8, table: &[u8]) -> NumberAnswer
     ensures { λ r. ⌜ r ≡ sysvLengthAnswer (sysvLength (orderOf order) (now (table .entry))) ⌝ }
 {
-    match sysv::length::table_length(order_of(order), table) {
+    match sysv_header::length::table_length(order_of(order), table) {
         ChainCount::Chains(count) => number_answer(count as u64),
         ChainCount::Refused(refusal) => no_number(refusal),
     }

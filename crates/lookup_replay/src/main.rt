@@ -10,7 +10,7 @@ use gnu_length::TableLength;
 use libc::STDIN_FILENO;
 use libc::STDOUT_FILENO;
 use lookup::Answer;
-use sysv::length::ChainCount;
+use sysv_header::length::ChainCount;
 use version::table::Need;
 use version_parse::parse::Parsed;
 use version_parse::parse::parse;
@@ -191,7 +191,10 @@ fn tables_agree(record: &[u8], store: &[u32]) -> bool {
     if !same_answer(record, sysv_found(record, class, order, store, need)) {
         return false;
     }
-    same_length(record, length_of(sysv::length::table_length(order, table)))
+    same_length(
+        record,
+        length_of(sysv_header::length::table_length(order, table)),
+    )
 }
 
 // The recorded versions can all be read.

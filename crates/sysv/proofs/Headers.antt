@@ -1,7 +1,5 @@
--- What follows from the header, as it was read or refused.
---     countFrom, length-from     the length
+-- The lookup, from the header as it was read or refused.
 --     findFrom, find-from        the lookup
---     header-read                a header that was read: the table is whole, and the header is its own
 --     lookup-none, lookup-walk   the lookup by the numbers of the header: without buckets, or a walk from the hash's bucket
 -- Assumes nothing.
 use Prim.Native.Nat.{ℕ, _+_, _*_, _%_}
@@ -19,44 +17,16 @@ use Rattle.endian.specs.Refusals.{limit, anyLong, tooLong}
 use Rattle.endian.specs.Word.{wordAt}
 use Rattle.lookup.specs.declared.Answer.{Answer}
 use Rattle.lookup.specs.Wanted.{Parts, Asked, wanted, walk, unlessFault}
-use Rattle.sysv.specs.declared.header.Header.{Header}
-use Rattle.sysv.specs.declared.header.HeaderAt.{HeaderAt}
-use Rattle.sysv.specs.declared.length.ChainCount.{ChainCount}
-use Rattle.sysv.specs.Layout.{fault, headerOf, headerAt, headerUnless, chainCountOf, tableOf}
+use Rattle.sysv_header.specs.declared.header.Header.{Header}
+use Rattle.sysv_header.specs.declared.header.HeaderAt.{HeaderAt}
+use Rattle.sysv_header.specs.Header.{fault, headerOf, headerAt, headerUnless}
+use Rattle.sysv.specs.Layout.{tableOf}
 use Rattle.sysv.specs.Table.{visited, lookup}
-use Rattle.sysv.specs.Find.{sysvTable, sysvFind, sysvLength, lengthAnswer}
-
-abbrev pub countFrom : HeaderAt → ChainCount
-countFrom (HeaderAt.At header) = ChainCount.Chains (header .«chain_count»)
-countFrom (HeaderAt.Refused r) = ChainCount.Refused r
+use Rattle.sysv.specs.Find.{sysvTable, sysvFind}
 
 abbrev pub findFrom : HeaderAt → Answer → Answer
 findFrom (HeaderAt.At header) answer = answer
 findFrom (HeaderAt.Refused r) answer = Answer.Refused r
-
-module _ (order : Order) (table : List ℕ) where
-  pub length-from : sysvLength order table ≡ countFrom (headerAt order table)
-  unfolding sysvLength headerAt
-  length-from = by (ltb limit (length table)) (fault order table)
-    where
-      by : (t : Bool) (o : Option Refusal)
-          → cond t (ChainCount.Refused tooLong) (lengthAnswer o (chainCountOf order table))
-          ≡ countFrom (cond t (HeaderAt.Refused tooLong) (headerUnless o (headerOf order table)))
-      by true o = refl
-      by false none = refl
-      by false (some r) = refl
-
-  pub header-read : (header : Header) → headerAt order table ≡ HeaderAt.At header
-      → (ltb limit (length table) ≡ false) × (fault order table ≡ none) × (header ≡ headerOf order table)
-  unfolding headerAt
-  header-read header h = by (ltb limit (length table)) (fault order table) h
-    where
-      by : (t : Bool) (o : Option Refusal)
-          → cond t (HeaderAt.Refused tooLong) (headerUnless o (headerOf order table)) ≡ HeaderAt.At header
-          → (t ≡ false) × (o ≡ none) × (header ≡ headerOf order table)
-      by true o e = (cc, cc, cc)
-      by false none e = (refl, refl, cc)
-      by false (some r) e = (cc, cc, cc)
 
 -- the table's own length is the header's to refuse
 module _ (class : Class) (order : Order) (p : Parts) (asked : Asked) (hash : ℕ) where

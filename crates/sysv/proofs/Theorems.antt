@@ -17,7 +17,7 @@ use Rattle.version.specs.Table.{matching}
 use Rattle.lookup.specs.declared.Answer.the-variants.{Found, Missing, Refused}
 use Rattle.lookup.specs.Wanted.{Parts, Asked, allParts, nameOf, symbolIndex, wanted, walk, unlessFault}
 use Rattle.lookup.proofs.Distinct.{Same, wanted-named, wanted-fits, wanted-one, walk-wanted}
-use Rattle.sysv.specs.Layout.{fault}
+use Rattle.sysv_header.specs.Header.{fault}
 use Rattle.sysv.specs.Table.{Table, numbers, lookup}
 use Rattle.sysv.specs.Find.{sysvTable, sysvFind}
 

@@ -1,20 +1,15 @@
--- The SysV lookup of the bytes, and the length (01, "Lookups"): part too long (1), the table's places (23 to 25), then the answer.
+-- The SysV lookup of the bytes (01, "Lookups"): part too long (1), the table's places (23 to 25), then the answer.
 -- Assumes nothing.
 use Prim.Native.Nat.{ℕ}
 use mathlib.Core.Bool.{cond}
-use mathlib.Core.List.{List}
-use mathlib.Core.Option.{Option, some, none}
-use lib.Dec.{ltb}
-use lib.ListN.{length}
 use Rattle.endian.specs.declared.kinds.Class.{Class}
 use Rattle.endian.specs.declared.kinds.Order.{Order}
-use Rattle.endian.specs.declared.refusals.Refusal.{Refusal}
-use Rattle.endian.specs.Refusals.{limit, anyLong, tooLong}
+use Rattle.endian.specs.Refusals.{anyLong, tooLong}
 use Rattle.lookup.specs.declared.Answer.{Answer}
 use Rattle.lookup.specs.Wanted.{Parts, Asked, allParts, wanted, unlessFault}
-use Rattle.sysv.specs.declared.length.ChainCount.{ChainCount}
+use Rattle.sysv_header.specs.Header.{fault}
 use Rattle.sysv.specs.Table.{Table, lookup}
-use Rattle.sysv.specs.Layout.{fault, chainCountOf, tableOf}
+use Rattle.sysv.specs.Layout.{tableOf}
 
 abbrev pub sysvTable : Class → Order → Parts → Table
 sysvTable class order p = tableOf order (p .table) class (p .symbols) (p .strings)
@@ -23,12 +18,3 @@ unfoldable pub sysvFind : Class → Order → Parts → Asked → (hash : ℕ) �
 sysvFind class order p asked hash =
     cond (anyLong (allParts p asked)) (Answer.Refused tooLong)
     (unlessFault (fault order (p .table)) (lookup (sysvTable class order p) hash (wanted class order p asked)))
-
-abbrev pub lengthAnswer : Option Refusal → ℕ → ChainCount
-lengthAnswer (some r) n = ChainCount.Refused r
-lengthAnswer none n = ChainCount.Chains n
-
-unfoldable pub sysvLength : Order → (table : List ℕ) → ChainCount
-sysvLength order table =
-    cond (ltb limit (length table)) (ChainCount.Refused tooLong)
-    (lengthAnswer (fault order table) (chainCountOf order table))

@@ -1,7 +1,4 @@
 // The SysV lookup.
-use super::header::Header;
-use super::header::HeaderAt;
-use super::header::header_of;
 use endian::kinds::Class;
 use endian::kinds::Order;
 use endian::refusals::LIMIT;
@@ -10,6 +7,9 @@ use endian::words::u32_at;
 use lookup::Answer;
 use lookup::is_wanted;
 use symbol::table::SymbolIndex;
+use sysv_header::header::Header;
+use sysv_header::header::HeaderAt;
+use sysv_header::header::header_of;
 use version::table::Need;
 ghost use mathlib.Core.Path.{_≡_};
 ghost use mathlib.Core.List.{[], _∷_};
@@ -18,7 +18,8 @@ ghost use Rattle.endian.specs.Refusals.{anyLong};
 ghost use Rattle.endian.specs.Word.{wordAt};
 ghost use Rattle.lookup.specs.Wanted.{wantedIn};
 ghost use Rattle.lookup.specs.Wanted.{walk as walkOf};
-ghost use Rattle.sysv.specs.Layout.{headerOf, tableOf};
+ghost use Rattle.sysv_header.specs.Header.{headerOf};
+ghost use Rattle.sysv.specs.Layout.{tableOf};
 ghost use Rattle.sysv.specs.Table.{visited, lookup};
 ghost use Rattle.sysv.specs.Find.{sysvFind};
 

@@ -1,4 +1,2 @@
-// The SysV hash table: a lookup with its probes, and the length of the symbol table.
+// The SysV hash table: a lookup with its probes.
 pub mod find;
-pub mod header;
-pub mod length;

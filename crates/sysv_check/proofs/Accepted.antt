@@ -32,7 +32,7 @@ use Rattle.lookup.specs.Wanted.{Parts, Asked, allParts, nameOf, symbolIndex, wa
 use Rattle.lookup.proofs.Picking.{All, all-map, by-test, none-firstOf}
 use Rattle.lookup.proofs.Distinct.{wanted-named, wanted-fits}
 use Rattle.sysv.specs.Table.{Table, numbers, lookup}
-use Rattle.sysv.specs.Layout.{bucketCountOf, chainCountOf, chainsAt, fault}
+use Rattle.sysv_header.specs.Header.{bucketCountOf, chainCountOf, chainsAt, fault}
 use Rattle.sysv.specs.Find.{sysvTable, sysvFind}
 use Rattle.sysv_check.specs.declared.table.Checked.{Checked}
 use Rattle.sysv_check.specs.Count.{times}

@@ -22,9 +22,10 @@ use Rattle.symbol.specs.Table.{symbolSize, symbolCount}
 use Rattle.lookup.specs.Pick.{from, isNone}
 use Rattle.lookup.specs.Wanted.{nameOf}
 use Rattle.lookup.proofs.Picking.{and-left, and-right}
-use Rattle.sysv.specs.declared.header.Header.{Header}
-use Rattle.sysv.specs.declared.header.HeaderAt.{HeaderAt}
-use Rattle.sysv.specs.Layout.{fault, headerOf, headerAt, headerUnless, tableOf}
+use Rattle.sysv_header.specs.declared.header.Header.{Header}
+use Rattle.sysv_header.specs.declared.header.HeaderAt.{HeaderAt}
+use Rattle.sysv_header.specs.Header.{fault, headerOf, headerAt, headerUnless}
+use Rattle.sysv.specs.Layout.{tableOf}
 use Rattle.sysv.specs.Table.{Table}
 use Rattle.sysv_check.specs.declared.table.Checked.{Checked}
 use Rattle.sysv_check.specs.Count.{every}

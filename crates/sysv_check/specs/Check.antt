@@ -8,7 +8,8 @@ use Rattle.endian.specs.declared.kinds.Class.{Class}
 use Rattle.endian.specs.declared.kinds.Order.{Order}
 use Rattle.endian.specs.declared.refusals.Refusal.{Refusal}
 use Rattle.endian.specs.Refusals.{anyLong, tooLong}
-use Rattle.sysv.specs.Layout.{fault, tableOf}
+use Rattle.sysv_header.specs.Header.{fault}
+use Rattle.sysv.specs.Layout.{tableOf}
 use Rattle.sysv_check.specs.declared.table.Checked.{Checked}
 use Rattle.sysv_check.specs.declared.table.Checked.the-variants.{Refused}
 use Rattle.sysv_check.specs.Rules.{firstGlobal, check}

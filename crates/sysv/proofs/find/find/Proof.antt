@@ -4,11 +4,12 @@ use mathlib.Core.Bool.{Bool, true, false, cond}
 use Rattle.endian.specs.Refusals.{tooLong}
 use Rattle.lookup.specs.declared.Answer.{Answer}
 use Rattle.lookup.specs.Wanted.{Parts, Asked, wanted}
-use Rattle.sysv.specs.declared.header.HeaderAt.{HeaderAt}
-use Rattle.sysv.specs.Layout.{headerAt}
+use Rattle.sysv_header.specs.declared.header.HeaderAt.{HeaderAt}
+use Rattle.sysv_header.specs.Header.{headerAt}
+use Rattle.sysv_header.proofs.Headers.{header-read}
 use Rattle.sysv.specs.Table.{lookup}
 use Rattle.sysv.specs.Find.{sysvTable, sysvFind}
-use Rattle.sysv.proofs.Headers.{findFrom, find-from, header-read}
+use Rattle.sysv.proofs.Headers.{findFrom, find-from}
 use borrow.Author.Needs.{needs}
 use Rattle.sysv.proofs.find.find.Statement.{statement}
 use Rattle.sysv.proofs.find.find.Tie as tie

@@ -7,9 +7,10 @@ use borrow.Author.Tests.{lt-ltb, le-ltb}
 use Rattle.endian.specs.Refusals.{limit, tooLong}
 use Rattle.symbol.specs.declared.table.SymbolCount.{SymbolCount}
 use Rattle.symbol.specs.Table.{symbolCount}
-use Rattle.sysv.specs.declared.header.HeaderAt.{HeaderAt}
-use Rattle.sysv.specs.Layout.{headerAt, tableOf}
-use Rattle.sysv.proofs.Headers.{header-read}
+use Rattle.sysv_header.specs.declared.header.HeaderAt.{HeaderAt}
+use Rattle.sysv_header.specs.Header.{headerAt}
+use Rattle.sysv.specs.Layout.{tableOf}
+use Rattle.sysv_header.proofs.Headers.{header-read}
 use Rattle.sysv_check.specs.declared.table.Checked.{Checked}
 use Rattle.sysv_check.specs.Rules.{firstGlobal}
 use Rattle.sysv_check.specs.Rules.{check as checkOf}

@@ -14,7 +14,7 @@ use Rattle.version_parse.specs.Records.{auxOutcome, auxRefusal, auxAt, v
 use Rattle.version_parse.specs.Highest.{auxIndices, needIndices, higherOf}
 use Rattle.version_parse.specs.declared.records.Aux.{Aux}
 use Rattle.version_parse.proofs.Walks.{collect-end, collect-broken, collect-turn, counted-repeat}
-use Rattle.version_parse.proofs.Bounds.{aux-place, aux-next, vernauxs-end, vernauxs-more, vernauxs-stop}
+use Rattle.version_parse.proofs.Bounds.{aux-next, vernauxs-end, vernauxs-more, vernauxs-stop}
 use Rattle.version_parse.proofs.Again.{higher-once, higher-again}
 use borrow.Author.Needs.{needs}
 use Rattle.version_parse.proofs.highest.highest_aux.Statement.{statement}

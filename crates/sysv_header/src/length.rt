@@ -4,7 +4,7 @@ use super::header::header_of;
 use endian::kinds::Order;
 use endian::refusals::Refusal;
 ghost use mathlib.Core.Path.{_≡_};
-ghost use Rattle.sysv.specs.Find.{sysvLength};
+ghost use Rattle.sysv_header.specs.Header.{sysvLength};
 
 pub enum ChainCount {
     Chains(u32),

@@ -1,9 +1,9 @@
--- `sysv::length::table_length` meets its contract. Each arm is told what `header_of` answered. Assumes nothing.
+-- `sysv_header::length::table_length` meets its contract. Each arm is told what `header_of` answered. Assumes nothing.
 use mathlib.Core.Path.{sym, ap, _∙_}
 use borrow.Author.Needs.{needs}
-use Rattle.sysv.proofs.Headers.{countFrom, length-from}
-use Rattle.sysv.proofs.length.table_length.Statement.{statement}
-use Rattle.sysv.proofs.length.table_length.Tie as tie
+use Rattle.sysv_header.proofs.Headers.{countFrom, length-from}
+use Rattle.sysv_header.proofs.length.table_length.Statement.{statement}
+use Rattle.sysv_header.proofs.length.table_length.Tie as tie
 
 header-of-requires : tie.Need-header-of-requires
 header-of-requires c κs = search needs

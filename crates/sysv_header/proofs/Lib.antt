@@ -1,0 +1,2 @@
+-- `Headers`: what follows from a table's header.
+pub mod Headers
