@@ -69,83 +69,99 @@ fn unversioned() -> [u8; 14] {
     versyms
 }
 
-fn put_imports(store: &[u32]) {
+fn put_head() {
     put(
-        b"\n\
-        Each line is an import: the routine and the version that it asks for, and what the rule of document 01\n\
-        takes for it: the number of the symbol, the symbol's version, and the probes (how many were tested).\n\
-        NOT TO BE SIGNED: the station may bind something else, for the reasons that stand below the line.\n\
-        A line that is not marked speaks of this library alone; docs/STATION.md says what else to look at.\n\
-        \n\
-        routine     asks for  symbol  version  probes\n",
+        b"\nEach line is an import: the routine and the version that it asks for, and what the rule of document 01\n",
     );
-    import(&SYMBOLS, &VERSYMS, store, b"import_lot", b"LOT_1.0");
-    import(&SYMBOLS, &VERSYMS, store, b"import_lot", b"LOT_2.0");
-    import_any(&SYMBOLS, &VERSYMS, store, b"import_lot");
-    import(&SYMBOLS, &VERSYMS, store, b"import_lot", b"LOT_3.0");
-    import(&SYMBOLS, &VERSYMS, store, b"seal_lot", b"LOT_1.0");
-    import_any(&SYMBOLS, &VERSYMS, store, b"seal_lot");
-    import(&SYMBOLS, &VERSYMS, store, b"sum_lot", b"LOT_1.0");
-    import(&SYMBOLS, &VERSYMS, store, b"void_lot", b"LOT_1.0");
+    put(
+        b"takes for it: the number of the symbol, the symbol's version, and the probes (how many were tested).\n",
+    );
+    put(
+        b"NOT TO BE SIGNED: the station may bind something else, for the reasons that stand below the line.\n",
+    );
+    put(
+        b"A line that is not marked speaks of this library alone; docs/STATION.md says what else to look at.\n",
+    );
+    put(b"\nroutine     asks for  symbol  version  probes\n");
+}
+
+// The imports of import_lot: the old version, the new one, none, and one that does not exist.
+fn put_lots(symbols: &[u8], versyms: &[u8], store: &[u32]) {
+    import(symbols, versyms, store, b"import_lot", b"LOT_1.0");
+    import(symbols, versyms, store, b"import_lot", b"LOT_2.0");
+    import_any(symbols, versyms, store, b"import_lot");
+    import(symbols, versyms, store, b"import_lot", b"LOT_3.0");
+}
+
+// Imports of other routines; void_lot is none.
+fn put_others(symbols: &[u8], versyms: &[u8], store: &[u32]) {
+    import(symbols, versyms, store, b"seal_lot", b"LOT_1.0");
+    import_any(symbols, versyms, store, b"seal_lot");
+    import(symbols, versyms, store, b"sum_lot", b"LOT_1.0");
+    import(symbols, versyms, store, b"void_lot", b"LOT_1.0");
+}
+
+fn put_imports(store: &[u32]) {
+    let symbols = SYMBOLS;
+    let versyms = VERSYMS;
+    put_head();
+    put_lots(&symbols, &versyms, store);
+    put_others(&symbols, &versyms, store);
 }
 
 // The import of LOT_2.0, with the symbols or the versyms changed.
 fn put_changed(title: &[u8], symbols: &[u8], versyms: &[u8], store: &[u32]) {
-    put(b"\n");
+    put(b"\nThe same library, ");
     put(title);
-    put(b"\n");
+    put(b" by hand:\n");
     import(symbols, versyms, store, b"import_lot", b"LOT_2.0");
 }
 
+// The same with one byte of the symbols changed.
+fn put_change(title: &[u8], at: usize, byte: u8, store: &[u32]) {
+    put_changed(title, &changed(at, byte), &VERSYMS, store);
+}
+
+fn put_unversioned(store: &[u32]) {
+    let title = b"the version of symbol 5 taken away";
+    put_changed(title, &SYMBOLS, &unversioned(), store);
+}
+
 fn put_changes(store: &[u32]) {
-    put_changed(
-        b"The same library, symbol 4 made undefined by hand:",
-        &changed(102, 0),
-        &VERSYMS,
-        store,
-    );
-    put_changed(
-        b"The same library, symbol 4 made local by hand:",
-        &changed(100, 0x02),
-        &VERSYMS,
-        store,
-    );
-    put_changed(
-        b"The same library, symbol 4 made hidden by hand:",
-        &changed(101, 2),
-        &VERSYMS,
-        store,
-    );
-    put_changed(
-        b"The same library, the version of symbol 5 taken away by hand:",
-        &SYMBOLS,
-        &unversioned(),
-        store,
-    );
+    put_change(b"symbol 4 made undefined", 102, 0, store);
+    put_change(b"symbol 4 made local", 100, 0x02, store);
+    put_change(b"symbol 4 made hidden", 101, 2, store);
+    put_unversioned(store);
+}
+
+fn put_library(store: &[u32]) {
+    put_imports(store);
+    put_changes(store);
 }
 
 // The imports, with the versions that the library defines.
-fn put_library() {
+fn put_parsed() {
     let mut store = [0u32; 24];
     match version_parse::parse::parse(Order::Little, &VERDEF, b"", &STRINGS, &mut store) {
-        Parsed::Highest(_) => {
-            put_imports(&store);
-            put_changes(&store);
-        }
-        Parsed::Refused(refusal) => {
-            put(b"The versions of the library: ");
-            put_refusal(refusal.0);
-        }
+        Parsed::Highest(_) => put_library(&store),
+        Parsed::Refused(refusal) => put_refusal(refusal.0),
     }
 }
 
-fn main() {
-    put(
-        b"The library is fixtures/lot/liblot.so.\n\nThe checker on its table of names (GNU hash table): ",
-    );
-    if put_verdict(&TABLE) {
-        put_library();
-    }
+fn put_accepted() -> bool {
+    put(b"The checker on its table of names (GNU hash table): ");
+    put_verdict(&TABLE)
+}
+
+fn put_damaged() {
     put(b"\nThe checker on the same table, with one value changed by hand: ");
     put_verdict(&damaged());
+}
+
+fn main() {
+    put(b"The library is fixtures/lot/liblot.so.\n\n");
+    if put_accepted() {
+        put_parsed();
+    }
+    put_damaged();
 }
