@@ -1,3 +1,2 @@
--- `Counting`: the loop that counts. `Told`: what the answers of callees say of the whole answer.
-mod Counting
+-- `Told`: what both counts of definitions say.
 mod Told

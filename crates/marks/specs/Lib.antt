@@ -1,2 +1,1 @@
-pub mod Definitions
 pub mod Marks

@@ -20,12 +20,12 @@ use Rattle.symbol.specs.declared.table.SymbolAt.the-variants.{At as Symbol·At,
 use Rattle.symbol.specs.Table.{symbolAt, symbolSize}
 use Rattle.version.specs.declared.table.Need.{Need}
 use Rattle.lookup.specs.declared.Answer.{Answer}
-use Rattle.marks.specs.declared.definitions.Which.the-variants.{All, Unversioned}
-use Rattle.marks.specs.declared.marks.EntryMarks.{EntryMarks}
-use Rattle.marks.specs.declared.marks.Marks.{Marks}
-use Rattle.marks.specs.declared.marks.MarksAt.{MarksAt}
-use Rattle.marks.specs.declared.marks.MarksAt.the-variants.{At, Refused}
-use Rattle.marks.specs.Definitions.{definesIn, countIn}
+use Rattle.definitions.specs.declared.Which.the-variants.{All, Unversioned}
+use Rattle.marks.specs.declared.EntryMarks.{EntryMarks}
+use Rattle.marks.specs.declared.Marks.{Marks}
+use Rattle.marks.specs.declared.MarksAt.{MarksAt}
+use Rattle.marks.specs.declared.MarksAt.the-variants.{At, Refused}
+use Rattle.definitions.specs.Definitions.{definesIn, countIn}
 
 -- STV_INTERNAL and STV_HIDDEN
 abbrev pub isHidden : ℕ → Bool

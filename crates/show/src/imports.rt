@@ -10,8 +10,8 @@ use super::versions::put_version;
 use endian::kinds::Class;
 use endian::kinds::Order;
 use lookup::Answer;
-use marks::marks::MarksAt;
-use marks::marks::marks_of;
+use marks::MarksAt;
+use marks::marks_of;
 use name_hash::NameHash;
 use version::table::Need;
 
