@@ -1,0 +1,2 @@
+-- `Told`: what both counts of definitions say.
+mod Told
