@@ -1,8 +1,8 @@
 // Where the walk of a hash starts.
 use endian::kinds::Class;
 use endian::kinds::Order;
-use endian::words::u32_at;
 use gnu_table::header::Layout;
+use gnu_table::words::word_of;
 ghost use mathlib.Core.Path.{_≡_};
 ghost use Rattle.gnu_table.specs.Header.{tableAt};
 ghost use Rattle.gnu.specs.Lookup.{startOf};
@@ -23,12 +23,7 @@ pub(crate) fn start_of(
     if bucket_count == 0 {
         return 0;
     }
-    let buckets_at = layout.buckets_at as usize;
-    let start = u32_at(
-        order,
-        table,
-        buckets_at + (hash % bucket_count) as usize * 4,
-    );
+    let start = word_of(order, table, layout.buckets_at, hash % bucket_count);
     if count < start {
         return 0;
     }

@@ -1,7 +1,7 @@
 // The walk over pairs of symbol and value.
 use endian::kinds::Class;
 use endian::kinds::Order;
-use endian::words::u32_at;
+use gnu_table::words::word_of;
 use lookup::Answer;
 use lookup::is_wanted;
 use symbol::table::SymbolIndex;
@@ -52,7 +52,7 @@ pub(crate) fn walk(
             break Answer::Missing(probes);
         }
         probes += 1;
-        let value = u32_at(order, table, values_at as usize + (i - base) as usize * 4);
+        let value = word_of(order, table, values_at, i - base);
         if value / 2 == hash / 2
             && is_wanted(
                 class,

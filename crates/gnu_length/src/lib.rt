@@ -6,6 +6,7 @@ use endian::words::u32_at;
 use gnu_table::header::HeaderAt;
 use gnu_table::header::Layout;
 use gnu_table::header::header;
+use gnu_table::words::word_of;
 ghost use mathlib.Core.Path.{_≡_};
 ghost use mathlib.Core.Option.{some, none};
 ghost use Prim.Native.Nat.{_^_, _≤_, _<_, max};
@@ -31,10 +32,7 @@ fn highest_bucket(order: Order, table: &[u8], buckets_at: u32, bucket_count: u32
     let mut highest: u32 = 0;
     let mut b: u32 = 0;
     while b < bucket_count {
-        highest = larger(
-            highest,
-            u32_at(order, table, buckets_at as usize + b as usize * 4),
-        );
+        highest = larger(highest, word_of(order, table, buckets_at, b));
         b += 1;
     }
     highest

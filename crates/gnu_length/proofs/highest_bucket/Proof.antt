@@ -30,17 +30,8 @@ loop-holds c =
     let a = c .before .args in
     (omega arith, highest-start (bucket (a .order) (a .table .now) (a .buckets-at)) (a .bucket-count))
 
-cast-u32-at : tie.Need-cast-u32-at Inv-loop μ-loop
-cast-u32-at c = search needs
-
-mul-u32-at : tie.Need-mul-u32-at Inv-loop μ-loop
-mul-u32-at c = search needs
-
-add-u32-at : tie.Need-add-u32-at Inv-loop μ-loop
-add-u32-at c = search needs
-
-u32-at-requires : tie.Need-u32-at-requires Inv-loop μ-loop
-u32-at-requires c κs = search needs
+word-of-requires : tie.Need-word-of-requires Inv-loop μ-loop
+word-of-requires c κs = search needs
 
 larger-requires : tie.Need-larger-requires Inv-loop μ-loop
 larger-requires c κs = search needs
@@ -58,7 +49,7 @@ loop-again c =
     let b = k .loop .b in
     let on = highest-step (bucket (a .order) (a .table .now) (a .buckets-at)) (k .loop .highest) b (a .bucket-count)
     (c .before .before .loop-test .taken) in
-    (omega arith, rw (c .larger .ensures, c .before .u32-at .ensures) (sym on ∙ k .loop .inv .1))
+    (omega arith, rw (c .larger .ensures, c .before .word-of .ensures) (sym on ∙ k .loop .inv .1))
 
 returns : tie.Need-returns Inv-loop μ-loop
 returns c =
@@ -75,10 +66,7 @@ highest-bucket-spec =
     Inv-loop
     μ-loop
     loop-holds
-    cast-u32-at
-    mul-u32-at
-    add-u32-at
-    u32-at-requires
+    word-of-requires
     larger-requires
     add-b
     loop-less

@@ -61,7 +61,7 @@ start k = k .before .before .before .before .before .before .before .before .bef
 -- where the first test failed, the pair does not match
 no-match : (c : tie.Joined2 Inv-loop μ-loop) → matches (start (c .before .before .before)) (c .before .before .before .loop .i) ≡ false
 no-match c =
-    rw (← (c .before .u32-at .ensures))
+    rw (← (c .before .word-of .ensures))
     (either (c .if2 .came) (λ w. rw (sym (w .1 .ensures) ∙ w .2 .left, and-false)) (λ w. rw (ne-eqb _ _ (w .left))))
 
 loop-holds : tie.Need-loop-holds Inv-loop μ-loop
@@ -73,20 +73,11 @@ loop-holds c =
 add-probes : tie.Need-add-probes Inv-loop μ-loop
 add-probes c = omega arith
 
-sub-u32-at : tie.Need-sub-u32-at Inv-loop μ-loop
-sub-u32-at c = omega arith
+sub-word-of : tie.Need-sub-word-of Inv-loop μ-loop
+sub-word-of c = omega arith
 
-cast-u32-at : tie.Need-cast-u32-at Inv-loop μ-loop
-cast-u32-at c = omega arith
-
-mul-u32-at : tie.Need-mul-u32-at Inv-loop μ-loop
-mul-u32-at c = omega arith
-
-add-u32-at : tie.Need-add-u32-at Inv-loop μ-loop
-add-u32-at c = omega arith
-
-u32-at-requires : tie.Need-u32-at-requires Inv-loop μ-loop
-u32-at-requires c κs = search needs
+word-of-requires : tie.Need-word-of-requires Inv-loop μ-loop
+word-of-requires c κs = search needs
 
 is-wanted-requires : tie.Need-is-wanted-requires Inv-loop μ-loop
 is-wanted-requires c κs = search needs
@@ -101,7 +92,7 @@ loop-again : tie.Need-loop-again Inv-loop μ-loop
 loop-again c =
     let k = c .before .before .before .before in
     let s = start k in
-    let going : ends s (k .loop .i) ≡ false = rw (← (c .before .before .u32-at .ensures)) (ne-eqb _ 1 (c .if4 .left)) in
+    let going : ends s (k .loop .i) ≡ false = rw (← (c .before .before .word-of .ensures)) (ne-eqb _ 1 (c .if4 .left)) in
     let on = walkFrom-on (matches s) (ends s) (k .loop .probes) (k .loop .i) (s .args .end) (omega arith) (no-match (c .before)) going in
     (omega arith, omega arith, omega arith, sym on ∙ k .loop .inv .3)
 
@@ -116,7 +107,7 @@ returns-2 c =
     let k = c .before .before .before .before .before in
     let s = start k in
     let matched : matches s (k .loop .i) ≡ true =
-    rw (← (c .before .before .before .u32-at .ensures), eq-eqb _ _ (c .before .before .if2 .taken))
+    rw (← (c .before .before .before .word-of .ensures), eq-eqb _ _ (c .before .before .if2 .taken))
     (sym (c .before .is-wanted .ensures) ∙ c .if3 .taken) in
     sym (walkFrom-match (matches s) (ends s) (k .loop .probes) (k .loop .i) (s .args .end) (omega arith) matched) ∙ k .loop .inv .3
 
@@ -124,7 +115,7 @@ returns-3 : tie.Need-returns-3 Inv-loop μ-loop
 returns-3 c =
     let k = c .before .before .before .before in
     let s = start k in
-    let ended : ends s (k .loop .i) ≡ true = rw (← (c .before .before .u32-at .ensures)) (eq-eqb _ 1 (c .if4 .taken)) in
+    let ended : ends s (k .loop .i) ≡ true = rw (← (c .before .before .word-of .ensures)) (eq-eqb _ 1 (c .if4 .taken)) in
     sym (walkFrom-end (matches s) (ends s) (k .loop .probes) (k .loop .i) (s .args .end) (omega arith) (no-match (c .before)) ended)
     ∙ k .loop .inv .3
 
@@ -136,11 +127,8 @@ walk-spec =
     μ-loop
     loop-holds
     add-probes
-    sub-u32-at
-    cast-u32-at
-    mul-u32-at
-    add-u32-at
-    u32-at-requires
+    sub-word-of
+    word-of-requires
     is-wanted-requires
     add-i
     loop-less

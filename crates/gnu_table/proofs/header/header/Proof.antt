@@ -6,7 +6,7 @@ use mathlib.Core.Path.{_≡_, sym}
 use native.Mathlib.Omega.{arith}
 use native.Mathlib.Nat.{mul-le-mul-left}
 use Rattle.gnu_table.specs.Layout.{bucketsAt, valuesAt}
-use Rattle.gnu_table.proofs.Headers.{header-long, header-short, header-bloom, header-buckets, header-at}
+use Rattle.gnu_table.proofs.Headers.{header-long, header-short, header-bloom, header-buckets, header-is}
 use Rattle.gnu_table.proofs.header.header.Statement.{statement}
 use Rattle.gnu_table.proofs.header.header.Tie as tie
 
@@ -87,10 +87,11 @@ returns-5 c =
     let at-tests = c .before .before .before .before .before .before .before in
     let at-places = c .before .before .before .before in
     let a = at-tests .before .before .before .args in
-    let is = header-at (a .class) (a .order) (a .table .now) (at-tests .before .if1 .left) (at-tests .if2 .left)
+    header-is (a .class) (a .order) (a .table .now) (at-tests .before .if1 .left) (at-tests .if2 .left)
     (rw (buckets-place at-places) at (c .before .before .before .if3 .left))
-    (rw (values-place at-places) at (c .before .before .if4 .left)) in
-    rw (values-place at-places, buckets-place at-places) (cc (is, c .u32-at4 .ensures, c .before .u32-at3 .ensures))
+    (rw (values-place at-places) at (c .before .before .if4 .left))
+    (at-places .before .before .u32-at .ensures) (c .before .u32-at3 .ensures) (at-places .before .u32-at2 .ensures) (c .u32-at4 .ensures)
+    (buckets-place at-places) (values-place at-places)
 
 pub header-spec : {M : Type 1} → statement M
 header-spec =
