@@ -1,7 +1,10 @@
 // One import: what is asked for, the lookup's answer, and what is against signing it.
+use super::library::Change;
+use super::library::symbols;
+use super::library::versyms;
 use super::reasons::put_marks;
-use super::sample::STRINGS;
-use super::sample::TABLE;
+use super::sample::strings;
+use super::sample::table;
 use super::text::put;
 use super::text::put_left;
 use super::text::put_number;
@@ -9,46 +12,47 @@ use super::text::put_refusal;
 use super::versions::put_version;
 use endian::kinds::Class;
 use endian::kinds::Order;
+use gnu::find::find;
 use lookup::Answer;
 use marks::MarksAt;
 use marks::marks_of;
 use name_hash::NameHash;
+use name_hash::gnu_hash;
+use name_hash::sysv_hash;
 use version::table::Need;
 
 fn found(
-    symbols: &[u8],
-    versyms: &[u8],
+    change: Change,
     store: &[u32],
     name: &[u8],
+    hash: u32,
     need: Need,
     version: &[u8],
 ) -> Answer {
-    match name_hash::gnu_hash(name) {
-        NameHash::Hash(hash) => gnu::find::find(
-            Class::Elf64,
-            Order::Little,
-            &TABLE,
-            symbols,
-            &STRINGS,
-            versyms,
-            store,
-            &STRINGS,
-            name,
-            hash,
-            need,
-            version,
-        ),
-        NameHash::Refused(refusal) => Answer::Refused(refusal),
-    }
+    let names = strings();
+    find(
+        Class::Elf64,
+        Order::Little,
+        &table(),
+        &symbols(change),
+        &names,
+        &versyms(change),
+        store,
+        &names,
+        name,
+        hash,
+        need,
+        version,
+    )
 }
 
 // Symbol, version and probes; a refusal is that of the marks.
-fn put_answer(versyms: &[u8], store: &[u32], answer: Answer) {
+fn put_answer(change: Change, store: &[u32], answer: Answer) {
     match answer {
         Answer::Found(symbol, probes) => {
             put_number(symbol.0 as u64, 6);
             put(b"  ");
-            put_version(versyms, store, symbol);
+            put_version(change, store, symbol);
             put_number(probes as u64, 6);
         }
         Answer::Missing(probes) => {
@@ -59,47 +63,47 @@ fn put_answer(versyms: &[u8], store: &[u32], answer: Answer) {
     }
 }
 
-// The line of an import with this need, and what stands below it.
-fn put_line(
-    symbols: &[u8],
-    versyms: &[u8],
-    store: &[u32],
-    name: &[u8],
-    need: Need,
-    version: &[u8],
-) {
-    let answer = found(symbols, versyms, store, name, need, version);
-    put_answer(versyms, store, answer);
-    match marks_of(
+fn marks_at(change: Change, name: &[u8], need: Need, answer: Answer) -> MarksAt {
+    marks_of(
         Class::Elf64,
         Order::Little,
-        symbols,
-        &STRINGS,
-        versyms,
+        &symbols(change),
+        &strings(),
+        &versyms(change),
         name,
         need,
         answer,
-    ) {
-        MarksAt::At(marks) => put_marks(symbols, versyms, store, name, marks),
-        MarksAt::Refused(refusal) => put_refusal(refusal.0),
-    }
+    )
 }
 
-// An import of a routine that asks for a version.
-pub(crate) fn import(symbols: &[u8], versyms: &[u8], store: &[u32], name: &[u8], version: &[u8]) {
-    put_left(name, 12);
-    put_left(version, 10);
-    match name_hash::sysv_hash(version) {
+// The rest of the line of an import with this need, and what stands below it.
+fn put_line(change: Change, store: &[u32], name: &[u8], need: Need, version: &[u8]) {
+    match gnu_hash(name) {
         NameHash::Hash(hash) => {
-            put_line(symbols, versyms, store, name, Need::Hash(hash), version);
+            let answer = found(change, store, name, hash, need, version);
+            put_answer(change, store, answer);
+            match marks_at(change, name, need, answer) {
+                MarksAt::At(marks) => put_marks(change, store, name, marks),
+                MarksAt::Refused(refusal) => put_refusal(refusal.0),
+            }
         }
         NameHash::Refused(refusal) => put_refusal(refusal.0),
     }
 }
 
+// An import of a routine that asks for a version.
+pub(crate) fn import(change: Change, store: &[u32], name: &[u8], version: &[u8]) {
+    put_left(name, 12);
+    put_left(version, 10);
+    match sysv_hash(version) {
+        NameHash::Hash(hash) => put_line(change, store, name, Need::Hash(hash), version),
+        NameHash::Refused(refusal) => put_refusal(refusal.0),
+    }
+}
+
 // An import of a routine that asks for no version.
-pub(crate) fn import_any(symbols: &[u8], versyms: &[u8], store: &[u32], name: &[u8]) {
+pub(crate) fn import_any(change: Change, store: &[u32], name: &[u8]) {
     put_left(name, 12);
     put_left(b"none", 10);
-    put_line(symbols, versyms, store, name, Need::Any, b"");
+    put_line(change, store, name, Need::Any, b"");
 }

@@ -1,5 +1,8 @@
 // Why a line is not to be signed, and the definitions of its routine.
-use super::sample::STRINGS;
+use super::library::Change;
+use super::library::symbols;
+use super::library::versyms;
+use super::sample::strings;
 use super::text::put;
 use super::text::put_refusal;
 use super::versions::put_definition;
@@ -56,38 +59,32 @@ fn put_reasons(marks: Marks) {
     put_entry_reasons(marks.found);
 }
 
-fn put_if_definition(
-    symbols: &[u8],
-    versyms: &[u8],
-    store: &[u32],
-    name: &[u8],
-    symbol: SymbolIndex,
-) {
+fn put_if_definition(change: Change, store: &[u32], name: &[u8], symbol: SymbolIndex) {
     if defines(
         Class::Elf64,
         Order::Little,
-        symbols,
-        &STRINGS,
-        versyms,
+        &symbols(change),
+        &strings(),
+        &versyms(change),
         name,
         Which::All,
         symbol,
     ) {
-        put_definition(versyms, store, symbol);
+        put_definition(change, store, symbol);
     }
 }
 
 // The definitions among the symbols 1 to `end - 1`.
-fn put_definitions(symbols: &[u8], versyms: &[u8], store: &[u32], name: &[u8], end: u32) {
+fn put_definitions(change: Change, store: &[u32], name: &[u8], end: u32) {
     let mut number: u32 = 1;
     while number < end {
-        put_if_definition(symbols, versyms, store, name, SymbolIndex(number));
+        put_if_definition(change, store, name, SymbolIndex(number));
         number += 1;
     }
 }
 
 // The mark of a line and, where it is not to be signed, what stands below it.
-pub(crate) fn put_marks(symbols: &[u8], versyms: &[u8], store: &[u32], name: &[u8], marks: Marks) {
+pub(crate) fn put_marks(change: Change, store: &[u32], name: &[u8], marks: Marks) {
     if !marks.any() {
         put(b"  not marked\n");
         return;
@@ -95,8 +92,8 @@ pub(crate) fn put_marks(symbols: &[u8], versyms: &[u8], store: &[u32], name: &[u
     put(b"  NOT TO BE SIGNED\n");
     put_reasons(marks);
     put(b"    The library's definitions of the routine:\n");
-    match symbol_count(Class::Elf64, symbols) {
-        SymbolCount::Symbols(end) => put_definitions(symbols, versyms, store, name, end),
+    match symbol_count(Class::Elf64, &symbols(change)) {
+        SymbolCount::Symbols(end) => put_definitions(change, store, name, end),
         SymbolCount::Refused(refusal) => put_refusal(refusal.0),
     }
 }

@@ -5,10 +5,10 @@ use Rattle.show.proofs.reasons.put_definitions.Statement.{statement}
 use Rattle.show.proofs.reasons.put_definitions.Tie as tie
 
 abbrev Inv-loop : tie.InvT-loop
-Inv-loop symbols versyms store name end number₀ number = number < 2 ^ 32
+Inv-loop change store name end number₀ number = number < 2 ^ 32
 
 abbrev μ-loop : tie.MeasureT-loop
-μ-loop symbols versyms store name end number₀ number = end - number
+μ-loop change store name end number₀ number = end - number
 
 loop-holds : tie.Need-loop-holds Inv-loop μ-loop
 loop-holds c = search needs
