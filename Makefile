@@ -64,6 +64,7 @@ calls: archive
 	$(CC) -std=c11 -Wall -Wextra -Werror -O2 -Iinclude tests/c/calls.c $(ARCHIVE) -o target/c/calls
 	$(EMULATOR) target/c/calls
 	$(CARGO) test --offline --quiet --manifest-path rust/Cargo.toml
+	fixtures/lot/make --check
 
 ifneq ($(wildcard $(ORACLE)/Cargo.toml),)
 comparison: $(COMPARE)
