@@ -15,10 +15,11 @@ COMPARE := compare/target/release/compare
 
 .PHONY: run test archive calls comparison record gate clean
 
+# The program is for x86-64; on another processor what it wrote when rt ran it by an emulator is printed.
 run:
 	rt check show
 	@echo
-	@target/bin/show
+	@if [ "$$(uname -m)" = x86_64 ]; then target/bin/show; else cat target/log/show.stdout; fi
 
 # The gate comes last: its last line is the verdict.
 test: calls comparison
