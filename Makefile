@@ -40,6 +40,7 @@ COMPARE := compare/target/$(BUILT)/compare
 
 .PHONY: run test archive calls comparison record speed gate clean
 
+# Without an emulator of ours, on another processor, what rt has found the program to write is printed.
 run:
 	rt check show
 	@echo

@@ -3,7 +3,7 @@
 --     counting-start, counting-next, counting-end
 -- Assumes nothing.
 use Prim.Native.Nat.{ℕ, suc, _+_, _-_, _≤_, _<_}
-use mathlib.Core.Path.{_≡_, refl, sym, ap, _∙_}
+use mathlib.Core.Path.{_≡_}
 use mathlib.Core.Bool.{Bool, true, false, cond}
 use native.Mathlib.Numerals.{add-one}
 use native.Mathlib.Omega.{arith}

@@ -1,6 +1,6 @@
 -- The count of the definitions, by the number of symbols. Assumes nothing.
 use Prim.Native.Nat.{ℕ}
-use mathlib.Core.Path.{_≡_, refl}
+use mathlib.Core.Path.{_≡_}
 use mathlib.Core.Bool.{Bool, true, false, cond}
 use Rattle.endian.specs.Refusals.{tooLong}
 use Rattle.symbol.specs.declared.table.SymbolCount.{SymbolCount}

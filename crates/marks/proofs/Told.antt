@@ -1,6 +1,6 @@
 -- The marks, by both counts of definitions. Assumes nothing.
 use Prim.Native.Nat.{ℕ}
-use mathlib.Core.Path.{_≡_, refl}
+use mathlib.Core.Path.{_≡_}
 use mathlib.Core.Bool.{Bool, true, false, cond}
 use Rattle.endian.specs.Refusals.{tooLong}
 use Rattle.definitions.specs.declared.Definitions.{Definitions}

@@ -3,7 +3,7 @@ use mathlib.Core.Bool.{false}
 use lib.Dec.{ltb}
 use mathlib.Core.Path.{sym, ap, _∙_}
 use Rattle.marks.specs.declared.MarksAt.the-variants.{At}
-use Rattle.marks.specs.Marks.{marksBy, foundMarks, marksFor}
+use Rattle.marks.specs.Marks.{marksBy, foundMarks}
 use borrow.Author.Needs.{needs}
 use Rattle.marks.proofs.marks_for.Statement.{statement}
 use Rattle.marks.proofs.marks_for.Tie as tie

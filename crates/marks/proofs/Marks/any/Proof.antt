@@ -1,6 +1,4 @@
 -- `marks::Marks::any` meets its contract: the marks in order. Assumes nothing.
-use mathlib.Core.Path.{ap, _∙_}
-use borrow.Author.Tests.{not-true, not-false}
 use borrow.Author.Needs.{needs}
 use Rattle.marks.proofs.Marks.any.Statement.{statement}
 use Rattle.marks.proofs.Marks.any.Tie as tie
