@@ -182,8 +182,7 @@ fn limits(run: &mut Run) {
 
 /// Real tables, as they stand, damaged, and with big numbers.
 fn libraries(run: &mut Run) {
-    let libraries = std::mem::take(&mut run.libraries);
-    for library in &libraries {
+    for library in run.libraries {
         let Some((made, gnu, sysv)) = of_library(library) else {
             continue;
         };
@@ -208,5 +207,4 @@ fn libraries(run: &mut Run) {
             }
         }
     }
-    run.libraries = libraries;
 }

@@ -5,6 +5,7 @@
 use fetulombo::LIMIT;
 use std::cell::RefCell;
 use std::ffi::{c_int, c_void};
+use std::hint::black_box;
 use std::sync::atomic::{AtomicU8, Ordering};
 
 /// Where the parts of a call stand.
@@ -283,21 +284,35 @@ unsafe extern "C" {
     fn _exit(status: c_int) -> !;
 }
 
+/// Reads the byte beside a part: past its end, or before its start.
+fn read_beside(placing: Placing, length: usize) {
+    place_parts(placing);
+    let mut call = Call::new();
+    // Safety: none; this is what the guards are for.
+    unsafe {
+        let part = black_box(call.lent([7; 100].as_ptr(), length));
+        let beside = match placing {
+            Placing::Start => part.wrapping_sub(1),
+            _ => part.wrapping_add(length),
+        };
+        black_box(beside.read_volatile());
+    }
+}
+
+/// One byte past a part in a block of the heap: a memory checker must say so.
+pub fn read_past_block() {
+    read_beside(Placing::Blocks, 5);
+}
+
 /// Whether reading the byte beside a part ends the program: a copy of it tries.
 fn caught(placing: Placing, length: usize) -> bool {
     const SEGMENTATION_FAULT: c_int = 11;
-    place_parts(placing);
     let mut status = 0;
     // Safety: there is one thread; the copy only reads where it may not, and ends.
     unsafe {
         let child = fork();
         if child == 0 {
-            let part = Call::new().lent([7; 100].as_ptr(), length);
-            let beside = match placing {
-                Placing::Start => part.wrapping_sub(1),
-                _ => part.wrapping_add(length),
-            };
-            beside.read_volatile();
+            read_beside(placing, length);
             _exit(0);
         }
         assert_eq!(waitpid(child, &mut status, 0), child);

@@ -10,7 +10,8 @@ use fetulombo::{Class, LIMIT, Order, gnu_hash, sysv_hash};
 
 pub fn compare(run: &mut Run) {
     let all: Vec<u8> = (0..=255).collect();
-    for name in lists(&all, 2).into_iter().chain(lists(b"\0a\xff", 7)) {
+    let short = lists(&all, 2).into_iter().step_by(run.step());
+    for name in short.chain(lists(b"\0a\xff", 7)) {
         one(run, &name);
     }
     for _ in 0..run.times(1_000_000) {
@@ -23,12 +24,10 @@ pub fn compare(run: &mut Run) {
     for length in [LIMIT - 1, LIMIT, LIMIT + 1] {
         one(run, &long[..length]);
     }
-    let libraries = std::mem::take(&mut run.libraries);
-    for library in &libraries {
+    for library in run.libraries {
         gnu_values(run, library);
         version_hashes(run, library);
     }
-    run.libraries = libraries;
 }
 
 fn one(run: &mut Run, name: &[u8]) {

@@ -313,7 +313,8 @@ fn short_gnu(run: &mut Run) {
             }
             for shift in [0, 5, 31, 32, u32::MAX] {
                 for bloom in [0, u64::MAX, 1 << (a % (width as u32 * 8))] {
-                    for words in lists_of(&[0, 1, 2, 3, 0xffff_ffff, a & !1, a | 1], 3) {
+                    let all = lists_of(&[0, 1, 2, 3, 0xffff_ffff, a & !1, a | 1], 3);
+                    for words in all.into_iter().step_by(run.step()) {
                         let mut table = Vec::new();
                         for value in [bucket_count, base, blooms, shift] {
                             put(order, &mut table, value, 4);
@@ -344,7 +345,8 @@ fn short_sysv(run: &mut Run) {
     for (class, order) in KINDS {
         let made = three(class, order);
         for counts in lists_of(&[0, 1, 2, 3, 4], 2) {
-            for words in lists_of(&[0, 1, 2, 3, 4], 5) {
+            let all = lists_of(&[0, 1, 2, 3, 4], 5);
+            for words in all.into_iter().step_by(run.step()) {
                 if counts.len() < 2 && words.len() > 1 {
                     continue;
                 }
@@ -455,8 +457,7 @@ fn long_tables(run: &mut Run, table: &[u8], refused: bool) {
 /// Every name of real libraries with its own hash, with its own version, with another, and with
 /// none; absent names; wrong hashes; then damaged copies.
 fn libraries(run: &mut Run) {
-    let libraries = std::mem::take(&mut run.libraries);
-    for library in &libraries {
+    for library in run.libraries {
         let Some((made, gnu, sysv)) = of_library(library) else {
             continue;
         };
@@ -465,12 +466,12 @@ fn libraries(run: &mut Run) {
                 continue;
             }
             // Every name, but for a run that copies the whole table at each call.
-            let most = if run.scale.1 == 1 { usize::MAX } else { 200 };
+            let most = if run.is_part() { 100 } else { usize::MAX };
             let asked = names_of(run, kind, &made, most);
             one(run, kind, &made, table, &asked);
             for _ in 0..run.times(3) {
                 let damaged = damaged_words(&mut run.random, made.order, table);
-                let some: Vec<Asked> = (0..200)
+                let some: Vec<Asked> = (0..run.at_most(200))
                     .map(|_| asked[run.random.below(asked.len())].clone())
                     .collect();
                 one(run, kind, &made, &damaged, &some);
@@ -486,7 +487,6 @@ fn libraries(run: &mut Run) {
             }
         }
     }
-    run.libraries = libraries;
 }
 
 /// What to ask of a library: for some of its symbols each way of asking.

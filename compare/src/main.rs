@@ -3,16 +3,18 @@
 //! difference with its input in hex. Exits with 1 if an answer differs.
 //!
 //!     compare [--seed N] [--long | --edges | --blocks]
+//!     compare --blocks-probe
 //!     compare --record FOLDER
 //!     compare --cost
 //!     compare --speed [ROUNDS [TEXT]]
 //!     compare --survey FOLDER...
 //!     compare --damage LIBRARY FOLDER
 //!
-//! `--long` runs ten times as many random inputs. `--edges` runs a twentieth of them twice: every part
+//! `--long` runs five times as many random inputs. `--edges` runs a twentieth of them twice: every part
 //! that the archive is lent ends where a page without access begins, and then begins where one ends.
-//! `--blocks` runs a thousandth of them, each part in a block of the heap of exactly its size, and is for
-//! a run under a memory checker.
+//! `--blocks` runs a thousandth of them, and fewer of the short ones, each part in a block of the heap of
+//! exactly its size, and is for a run under a memory checker; `--blocks-probe` reads one byte past such a
+//! block, which the checker must report.
 //! `--record` writes the lists that the replay programs read, below FOLDER (the repository's crates/),
 //! and compares nothing. `--cost` times both on the inputs that cost version parsing the most, and the
 //! checkers on tables of n and 4n symbols. `--speed` times both on the same questions, with TEXT those
@@ -45,13 +47,15 @@ use edges::Placing;
 use inputs::Random;
 use report::Report;
 use std::process::ExitCode;
+use std::sync::Mutex;
+use std::sync::atomic::{AtomicUsize, Ordering};
 
 /// What every comparison is run with.
 pub struct Run {
     pub random: Random,
     /// How many times the random inputs of a default run, and which part of that.
     pub scale: (usize, usize),
-    pub libraries: Vec<libraries::Library>,
+    pub libraries: &'static [libraries::Library],
     pub report: Report,
 }
 
@@ -60,7 +64,38 @@ impl Run {
     pub fn times(&self, count: usize) -> usize {
         (count * self.scale.0).div_ceil(self.scale.1)
     }
+
+    /// The same, but never more than in a default run.
+    pub fn at_most(&self, count: usize) -> usize {
+        self.times(count).min(count)
+    }
+
+    /// Whether this is a run of a part, in which each call copies what it is lent.
+    pub fn is_part(&self) -> bool {
+        self.scale.1 > 1
+    }
+
+    /// Of every short input each so many-th is run.
+    pub fn step(&self) -> usize {
+        (self.scale.1 / 20).max(1)
+    }
 }
+
+/// The comparisons, in the order of the report.
+const MODULES: [fn(&mut Run); 9] = [
+    words::compare,
+    strings::compare,
+    symbols::compare,
+    hashes::compare,
+    notes::compare,
+    versions::compare,
+    lookups::compare,
+    checks::compare,
+    segments::compare,
+];
+
+/// How many of them run at a time.
+const THREADS: usize = 2;
 
 fn main() -> ExitCode {
     let mut seed = 1;
@@ -71,7 +106,7 @@ fn main() -> ExitCode {
     while let Some(word) = words.next() {
         match word.as_str() {
             "--seed" => seed = number(words.next()),
-            "--long" => scale = (10, 1),
+            "--long" => scale = (5, 1),
             "--edges" => {
                 edges::try_guards();
                 scale = (1, 20);
@@ -80,6 +115,10 @@ fn main() -> ExitCode {
             "--blocks" => {
                 scale = (1, 1000);
                 placings = vec![Placing::Blocks];
+            }
+            "--blocks-probe" => {
+                edges::read_past_block();
+                return ExitCode::SUCCESS;
             }
             "--cost" => {
                 cost::print();
@@ -108,10 +147,12 @@ fn main() -> ExitCode {
         record::write(folder.as_ref(), seed);
         return ExitCode::SUCCESS;
     }
+    let libraries = libraries::found().leak();
+    println!("seed {seed}, {} libraries", libraries.len());
     let mut same = true;
     for placing in placings {
         edges::place_parts(placing);
-        same &= compare(seed, scale);
+        same &= compare(seed, scale, libraries);
     }
     match same {
         true => ExitCode::SUCCESS,
@@ -119,26 +160,38 @@ fn main() -> ExitCode {
     }
 }
 
-/// Everything once, and whether all answers are the same.
-fn compare(seed: u64, scale: (usize, usize)) -> bool {
-    let mut run = Run {
-        random: Random::new(seed),
-        scale,
-        libraries: libraries::found(),
-        report: Report::new(),
+/// Everything once, and whether all answers are the same. Each comparison has random numbers of its
+/// own, so that a seed gives the same inputs whichever ends first.
+fn compare(seed: u64, scale: (usize, usize), libraries: &'static [libraries::Library]) -> bool {
+    let next = AtomicUsize::new(0);
+    let reports = MODULES.map(|_| Mutex::new(Report::new()));
+    let work = || {
+        loop {
+            let which = next.fetch_add(1, Ordering::Relaxed);
+            let Some(module) = MODULES.get(which) else {
+                return;
+            };
+            let mut run = Run {
+                random: Random::new(seed.wrapping_add((which as u64) << 40)),
+                scale,
+                libraries,
+                report: Report::new(),
+            };
+            module(&mut run);
+            *reports[which].lock().expect("a comparison that ended") = run.report;
+        }
     };
-    println!("seed {seed}, {} libraries", run.libraries.len());
-    words::compare(&mut run);
-    strings::compare(&mut run);
-    symbols::compare(&mut run);
-    hashes::compare(&mut run);
-    notes::compare(&mut run);
-    versions::compare(&mut run);
-    lookups::compare(&mut run);
-    checks::compare(&mut run);
-    segments::compare(&mut run);
-    run.report.print();
-    run.report.differences() == 0
+    std::thread::scope(|scope| {
+        for _ in 0..THREADS {
+            scope.spawn(work);
+        }
+    });
+    let mut all = Report::new();
+    for report in reports {
+        all.append(report.into_inner().expect("a comparison that ended"));
+    }
+    all.print();
+    all.differences() == 0
 }
 
 fn number(word: Option<String>) -> u64 {

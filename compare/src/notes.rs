@@ -408,8 +408,7 @@ fn limits(run: &mut Run) {
 
 /// Real notes, as they stand, damaged, and encoded in every order and alignment.
 fn libraries(run: &mut Run) {
-    let libraries = std::mem::take(&mut run.libraries);
-    for library in &libraries {
+    for library in run.libraries {
         let order = if library.big {
             Order::Big
         } else {
@@ -449,5 +448,4 @@ fn libraries(run: &mut Run) {
             }
         }
     }
-    run.libraries = libraries;
 }

@@ -1,7 +1,7 @@
 //! Counts of what ran and what was answered, and the differences.
 
 use std::collections::BTreeMap;
-use std::fmt::Debug;
+use std::fmt::{Debug, Display, Formatter};
 
 /// The original's answer, or ours: a refusal is its number.
 pub type Answer<T> = Result<T, u32>;
@@ -17,24 +17,38 @@ pub fn fitting<T>(length: usize, answer: T) -> Answer<T> {
 /// How many differences are printed in full.
 const SHOWN: u64 = 20;
 
-#[derive(Default)]
+/// Of what kind an answer is.
+#[derive(Clone, Copy, PartialEq, Eq, PartialOrd, Ord)]
+enum Kind {
+    Given(&'static str),
+    Refused(u32),
+}
+
+impl Display for Kind {
+    fn fmt(&self, to: &mut Formatter<'_>) -> std::fmt::Result {
+        match self {
+            Kind::Given(kind) => write!(to, "{kind}"),
+            Kind::Refused(number) => write!(to, "refused {number}"),
+        }
+    }
+}
+
 struct Tally {
+    name: &'static str,
     inputs: u64,
-    kinds: BTreeMap<String, u64>,
+    kinds: BTreeMap<Kind, u64>,
     differences: u64,
 }
 
+/// The tallies of the entry points, in the order in which they were met.
 pub struct Report {
-    /// In the order in which they were met.
-    names: Vec<&'static str>,
-    tallies: BTreeMap<&'static str, Tally>,
+    tallies: Vec<Tally>,
 }
 
 impl Report {
     pub fn new() -> Self {
         Report {
-            names: Vec::new(),
-            tallies: BTreeMap::new(),
+            tallies: Vec::new(),
         }
     }
 
@@ -49,8 +63,8 @@ impl Report {
         input: impl FnOnce() -> String,
     ) {
         let kind = match &ours {
-            Ok(value) => kind(value).to_owned(),
-            Err(number) => refused(*number),
+            Ok(value) => Kind::Given(kind(value)),
+            Err(number) => Kind::Refused(*number),
         };
         let tally = self.tally(name);
         tally.inputs += 1;
@@ -65,57 +79,59 @@ impl Report {
     }
 
     fn tally(&mut self, name: &'static str) -> &mut Tally {
-        if !self.tallies.contains_key(name) {
-            self.names.push(name);
-        }
-        self.tallies.entry(name).or_default()
+        let at = self.tallies.iter().position(|tally| tally.name == name);
+        let at = at.unwrap_or_else(|| {
+            self.tallies.push(Tally {
+                name,
+                inputs: 0,
+                kinds: BTreeMap::new(),
+                differences: 0,
+            });
+            self.tallies.len() - 1
+        });
+        &mut self.tallies[at]
+    }
+
+    /// Another's tallies after these; no entry point is in both.
+    pub fn append(&mut self, other: Report) {
+        self.tallies.extend(other.tallies);
     }
 
     pub fn differences(&self) -> u64 {
-        self.tallies.values().map(|tally| tally.differences).sum()
+        self.tallies.iter().map(|tally| tally.differences).sum()
     }
 
     pub fn print(&self) {
         println!("| entry point | inputs | answers | differences |");
         println!("|---|---:|---|---:|");
-        let mut inputs = 0;
-        for name in &self.names {
-            let tally = &self.tallies[name];
-            inputs += tally.inputs;
-            let kinds: Vec<String> = tally
-                .kinds
-                .iter()
-                .map(|(kind, count)| format!("{kind}: {count}"))
-                .collect();
+        for tally in &self.tallies {
+            let kinds = tally.kinds.iter();
+            let kinds: Vec<String> = kinds.map(|(kind, n)| format!("{kind}: {n}")).collect();
             println!(
-                "| {name} | {} | {} | {} |",
+                "| {} | {} | {} | {} |",
+                tally.name,
                 tally.inputs,
                 kinds.join(", "),
                 tally.differences
             );
         }
+        let inputs: u64 = self.tallies.iter().map(|tally| tally.inputs).sum();
         println!("| all | {inputs} | | {} |", self.differences());
+        println!();
         self.print_refusals();
     }
 
     /// In how many answers each refusal came, over all entry points.
     fn print_refusals(&self) {
-        let count = |number: u32| -> u64 {
-            let kind = refused(number);
-            let tallies = self.tallies.values();
-            tallies.filter_map(|tally| tally.kinds.get(&kind)).sum()
-        };
-        println!();
         println!("| refusal | answers |");
         println!("|---:|---:|");
         for number in 1..=37 {
-            println!("| {number} | {} |", count(number));
+            let kind = Kind::Refused(number);
+            let counts = self.tallies.iter();
+            let count: u64 = counts.filter_map(|tally| tally.kinds.get(&kind)).sum();
+            println!("| {number} | {count} |");
         }
     }
-}
-
-fn refused(number: u32) -> String {
-    format!("refused {number:2}")
 }
 
 /// Bytes in hex; long ones by their length and their ends.

@@ -360,7 +360,7 @@ fn boundaries(run: &mut Run) {
         for &filesz in &all {
             for &vaddr in &all {
                 for &address in &all {
-                    for &size in &all {
+                    for &size in all.iter().step_by(run.step()) {
                         let offset = run.random.of(&all);
                         range(
                             run,
@@ -501,9 +501,8 @@ fn limits(run: &mut Run) {
 
 /// The program headers of real files, as they stand, in every class and order, and damaged.
 fn libraries(run: &mut Run) {
-    let files = std::mem::take(&mut run.libraries);
     let programs = libraries::programs();
-    for library in files.iter().chain(&programs) {
+    for library in run.libraries.iter().chain(&programs) {
         let (class, order) = (library.class(), library.order());
         let table = library.program_headers();
         let records = (table.len() / size(class)) as u32;
@@ -529,18 +528,17 @@ fn libraries(run: &mut Run) {
         }
         for _ in 0..run.times(1) {
             let file = run.random.damaged(&library.bytes);
-            for _ in 0..200 {
+            for _ in 0..run.at_most(200) {
                 let table = run.random.damaged(table);
                 let index = run.random.below(records as usize + 1) as u32;
                 one(run, class, order, &table, index, &file);
             }
         }
     }
-    run.libraries = files;
 }
 
 fn ranges(run: &mut Run, library: &Library, fields: &SegmentFields) {
-    for _ in 0..50 {
+    for _ in 0..run.at_most(50) {
         let (address, length) = asked(&mut run.random, fields);
         range(run, fields, &library.bytes, address, length);
     }

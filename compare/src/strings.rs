@@ -62,7 +62,8 @@ fn equals(run: &mut Run, strings: &[u8], offset: u32, name: &[u8]) {
 /// small table with every small name.
 fn short(run: &mut Run) {
     let all: Vec<u8> = (0..=255).collect();
-    for strings in lists(&all, 2).into_iter().chain(lists(b"\0a", 8)) {
+    let short = lists(&all, 2).into_iter().step_by(run.step());
+    for strings in short.chain(lists(b"\0a", 8)) {
         for offset in 0..=strings.len() as u32 + 2 {
             at(run, &strings, offset);
         }
@@ -116,8 +117,7 @@ fn limits(run: &mut Run) {
 }
 
 fn libraries(run: &mut Run) {
-    let libraries = std::mem::take(&mut run.libraries);
-    for library in &libraries {
+    for library in run.libraries {
         for section in library.sections.iter().filter(|s| s.kind == STRTAB) {
             let strings = library.part(section);
             let damaged = run.random.damaged(strings);
@@ -132,5 +132,4 @@ fn libraries(run: &mut Run) {
             }
         }
     }
-    run.libraries = libraries;
 }

@@ -170,8 +170,7 @@ pub fn tables(library: &Library) -> impl Iterator<Item = (&[u8], &[u8])> {
 
 /// Real tables, as they stand and damaged, and the same symbols in every class and order.
 fn libraries(run: &mut Run) {
-    let libraries = std::mem::take(&mut run.libraries);
-    for library in &libraries {
+    for library in run.libraries {
         let class = if library.is64 {
             Class::Elf64
         } else {
@@ -204,7 +203,6 @@ fn libraries(run: &mut Run) {
             }
         }
     }
-    run.libraries = libraries;
 }
 
 /// The original's answers about one symbol: type Sym of symbol.rs, its own methods.
@@ -299,7 +297,7 @@ fn facts(run: &mut Run) {
         value: 0,
         size: 0,
     };
-    for shndx in 0..=u16::MAX {
+    for shndx in (0..=u16::MAX).step_by(run.step()) {
         for info in [0, 0x10, 0x12] {
             definition(run, &symbol(0, info, 0, shndx), strings);
         }

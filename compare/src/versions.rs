@@ -106,11 +106,12 @@ fn parsed(order: Order, parts: &Parts, room: usize) -> (Answer<u16>, Vec<u32>) {
 /// One table: parsing, then every index and symbol around those that are stored. `whole` looks at
 /// every index there is.
 fn one(run: &mut Run, order: Order, parts: &Parts, whole: bool) {
+    let whole = whole && !run.is_part();
     let absent = run.random.below(2) == 0;
     let theirs = original(order, parts, absent);
     let room = match whole {
         true => LARGEST_STORE,
-        false => LARGEST_STORE.min((parts.verdef.len() + parts.verneed.len()) * 6 + 12_000),
+        false => LARGEST_STORE.min((parts.verdef.len() + parts.verneed.len()) * 6 + 2_000),
     };
     let (mut answer, mut store) = parsed(order, parts, room);
     if answer == Err(22) {
@@ -605,8 +606,7 @@ pub fn big_parts(parts: &Parts) -> Parts {
 
 /// Real tables, as they stand, damaged, and in the other order.
 fn libraries(run: &mut Run) {
-    let libraries = std::mem::take(&mut run.libraries);
-    for (turn, library) in libraries.iter().enumerate() {
+    for (turn, library) in run.libraries.iter().enumerate() {
         let order = if library.big {
             Order::Big
         } else {
@@ -641,5 +641,4 @@ fn libraries(run: &mut Run) {
             one(run, order, &damaged, false);
         }
     }
-    run.libraries = libraries;
 }
