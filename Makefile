@@ -31,6 +31,7 @@ AR := x86_64-linux-gnu-ar
 TOOLS := $(and $(RUSTC),$(shell which $(CC)),$(shell which qemu-x86_64))
 BUILT := $(TRIPLE)/release
 export RUSTC
+export RUSTDOC := $(dir $(RUSTC))rustdoc
 export CARGO_BUILD_TARGET := $(TRIPLE)
 export CARGO_TARGET_X86_64_UNKNOWN_LINUX_GNU_LINKER := $(CC)
 export CARGO_TARGET_X86_64_UNKNOWN_LINUX_GNU_RUNNER := $(EMULATOR)
@@ -55,8 +56,10 @@ archive:
 	rm -rf $(OBJECTS) $(ARCHIVE)
 	mkdir -p $(OBJECTS)
 	rt check $(EXPORTS:%=export_%)
-	printf 'export_%s\n' $(EXPORTS) | xargs -P 2 -n 1 rt staticlib
-	cd $(OBJECTS) && for e in $(EXPORTS); do $(AR) x ../staticlib/libexport_$$e.a || exit; done
+	set -e; for e in $(EXPORTS); do \
+	  rt staticlib export_$$e; \
+	  (cd $(OBJECTS) && $(AR) x ../staticlib/libexport_$$e.a); \
+	done
 	$(AR) rcs $(ARCHIVE) $(EXPORTS:%=$(OBJECTS)/export_%.o)
 
 ifneq ($(TOOLS),)
