@@ -56,7 +56,7 @@ fn put_answer(change: Change, store: &[u32], answer: Answer) {
             put_number(probes as u64, 6);
         }
         Answer::Missing(probes) => {
-            put(b"  none  none     ");
+            put(b"  none  missing  ");
             put_number(probes as u64, 6);
         }
         Answer::Refused(_) => {}

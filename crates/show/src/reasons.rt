@@ -46,7 +46,7 @@ fn put_entry_reasons(marks: EntryMarks) {
 fn put_reasons(marks: Marks) {
     put_if(
         marks.several,
-        b"No version is asked for, and the library has more than one definition of the routine.",
+        b"No version is asked for, and the library has more than one definition: a loader may take another.",
     );
     put_if(
         marks.unversioned,
