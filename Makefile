@@ -13,6 +13,9 @@ EXPORTS := words strings symbols hashes notes versions lookups checks segments s
 ARCHIVE := target/staticlib/libfetulombo.a
 OBJECTS := target/archive
 
+# rt starts so many checks at once and waits for them all: with twice as many as processors none stands idle.
+export RT_JOBS ?= $(shell expr 2 \* $$(nproc))
+
 # The archive is for x86-64. On another processor what links it is built by a cross compiler and run
 # under an emulator, where both are at hand.
 ifeq ($(shell uname -m),x86_64)
