@@ -2,7 +2,7 @@
 //! entry point how many ran, how many answers of each kind and each refusal number came, and every
 //! difference with its input in hex. Exits with 1 if an answer differs.
 //!
-//!     compare [--seed N] [--long | --edges | --blocks]
+//!     compare [--seed N] [--long | --short | --edges | --blocks]
 //!     compare --blocks-probe
 //!     compare --record FOLDER
 //!     compare --cost
@@ -10,11 +10,11 @@
 //!     compare --survey FOLDER...
 //!     compare --damage LIBRARY FOLDER
 //!
-//! `--long` runs five times as many random inputs. `--edges` runs a twentieth of them twice: every part
-//! that the archive is lent ends where a page without access begins, and then begins where one ends.
-//! `--blocks` runs a thousandth of them, and fewer of the short ones, each part in a block of the heap of
-//! exactly its size, and is for a run under a memory checker; `--blocks-probe` reads one byte past such a
-//! block, which the checker must report.
+//! `--long` runs five times as many random inputs, `--short` an eighth of them. `--edges` runs a
+//! twentieth of them twice: every part that the archive is lent ends where a page without access begins,
+//! and then begins where one ends. `--blocks` runs a thousandth of them, and fewer of the short ones, each
+//! part in a block of the heap of exactly its size, and is for a run under a memory checker;
+//! `--blocks-probe` reads one byte past such a block, which the checker must report.
 //! `--record` writes the lists that the replay programs read, below FOLDER (the repository's crates/),
 //! and compares nothing. `--cost` times both on the inputs that cost version parsing the most, and the
 //! checkers on tables of n and 4n symbols. `--speed` times both on the same questions, with TEXT those
@@ -107,6 +107,7 @@ fn main() -> ExitCode {
         match word.as_str() {
             "--seed" => seed = number(words.next()),
             "--long" => scale = (5, 1),
+            "--short" => scale = (1, 8),
             "--edges" => {
                 edges::try_guards();
                 scale = (1, 20);
