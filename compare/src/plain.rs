@@ -26,7 +26,7 @@ pub enum Verdict {
     Broken(u32, u32),
 }
 
-fn word(big: bool, bytes: &[u8], at: usize, width: usize) -> u64 {
+pub fn word(big: bool, bytes: &[u8], at: usize, width: usize) -> u64 {
     let mut value = 0;
     for k in 0..width {
         let byte = u64::from(bytes[at + k]);

@@ -4,6 +4,7 @@
 use crate::Run;
 use crate::inputs::{Random, big};
 use crate::libraries::{VERDEF, VERNEED, VERSYM};
+use crate::plain;
 use crate::report::{Answer, fitting, hex};
 use fetulombo::{
     ENTRY, LARGEST_STORE, LIMIT, Needed, Order, SymbolIndex, Version, VersionIndex, Versions,
@@ -27,9 +28,77 @@ pub fn compare(run: &mut Run) {
 /// Of the made-up tables that are costly, one in so many is run.
 const COSTLY: usize = 16;
 
-/// Whether a table has an index above 300: the oracle counts its entries slowly.
+/// Whether a table that the first pass does not refuse has an index of 300 or more: the oracle counts
+/// its entries slowly.
 fn costly(order: Order, parts: &Parts) -> bool {
-    parsed(order, parts, 300 * ENTRY).0 == Err(22)
+    let highest =
+        || Some(highest_def(order, &parts.verdef)?.max(highest_need(order, &parts.verneed)?));
+    highest().is_some_and(|highest| highest >= 300)
+}
+
+fn number_at(order: Order, bytes: &[u8], at: usize, width: usize) -> usize {
+    plain::word(order == Order::Big, bytes, at, width) as usize
+}
+
+/// The highest index of the definitions, by a plain walk; nothing where a record is refused.
+fn highest_def(order: Order, bytes: &[u8]) -> Option<usize> {
+    let (mut at, mut highest) = (0, 0);
+    while at < bytes.len() {
+        let left = bytes.len() - at;
+        if left < 20 {
+            return None;
+        }
+        let field = |offset, width| number_at(order, bytes, at + offset, width);
+        let next = field(16, 4);
+        if field(12, 4) > left || next > left {
+            return None;
+        }
+        if field(2, 2) % 2 == 0 {
+            highest = highest.max(field(4, 2));
+        }
+        at = if next == 0 { bytes.len() } else { at + next };
+    }
+    Some(highest)
+}
+
+/// The same of the needs.
+fn highest_need(order: Order, bytes: &[u8]) -> Option<usize> {
+    let (mut at, mut highest) = (0, 0);
+    while at < bytes.len() {
+        let left = bytes.len() - at;
+        if left < 16 {
+            return None;
+        }
+        let field = |offset, width| number_at(order, bytes, at + offset, width);
+        let (aux, next) = (field(8, 4), field(12, 4));
+        if aux > left || next > left {
+            return None;
+        }
+        highest = highest.max(highest_aux(order, bytes, at + aux, field(2, 2))?);
+        at = if next == 0 { bytes.len() } else { at + next };
+    }
+    Some(highest)
+}
+
+/// The same of one need's chain of so many records; one with `next` 0 repeats itself.
+fn highest_aux(order: Order, bytes: &[u8], mut at: usize, count: usize) -> Option<usize> {
+    let mut highest = 0;
+    for _ in 0..count {
+        let left = bytes.len() - at;
+        if left < 16 {
+            return None;
+        }
+        let next = number_at(order, bytes, at + 12, 4);
+        if next > left {
+            return None;
+        }
+        highest = highest.max(number_at(order, bytes, at + 6, 2) % 0x8000);
+        if next == 0 {
+            break;
+        }
+        at += next;
+    }
+    Some(highest)
 }
 
 /// The parts of a version table.
