@@ -1,7 +1,8 @@
 -- `export_segment_parts::fetulombo_segment_notes` meets its contract. Each arm is told what was found. Assumes nothing.
 use mathlib.Core.Path.{sym, ap, _∙_}
 use borrow.Author.Needs.{needs}
-use Rattle.export_segment_parts.specs.Answers.{part, notesAnswer}
+use Rattle.export_part.specs.Answers.{part}
+use Rattle.export_segment_parts.specs.Answers.{notesAnswer}
 use Rattle.export_segment_parts.proofs.fetulombo_segment_notes.Statement.{statement}
 use Rattle.export_segment_parts.proofs.fetulombo_segment_notes.Tie as tie
 

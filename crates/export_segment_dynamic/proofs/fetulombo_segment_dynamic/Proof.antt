@@ -1,9 +1,9 @@
--- `export_segment_parts::fetulombo_segment_dynamic` meets its contract. Each arm is told what was found. Assumes nothing.
+-- `export_segment_dynamic::fetulombo_segment_dynamic` meets its contract. Each arm is told what was found. Assumes nothing.
 use mathlib.Core.Path.{sym, ap, _∙_}
 use borrow.Author.Needs.{needs}
-use Rattle.export_segment_parts.specs.Answers.{dynamicAnswer}
-use Rattle.export_segment_parts.proofs.fetulombo_segment_dynamic.Statement.{statement}
-use Rattle.export_segment_parts.proofs.fetulombo_segment_dynamic.Tie as tie
+use Rattle.export_segment_dynamic.specs.Answers.{dynamicAnswer}
+use Rattle.export_segment_dynamic.proofs.fetulombo_segment_dynamic.Statement.{statement}
+use Rattle.export_segment_dynamic.proofs.fetulombo_segment_dynamic.Tie as tie
 
 entry-of-requires : tie.Need-entry-of-requires
 entry-of-requires c κs = search needs

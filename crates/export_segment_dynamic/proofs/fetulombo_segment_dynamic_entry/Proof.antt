@@ -1,9 +1,9 @@
--- `export_segment_parts::fetulombo_segment_dynamic_entry` meets its contract. Each arm is told what was found. Assumes nothing.
+-- `export_segment_dynamic::fetulombo_segment_dynamic_entry` meets its contract. Each arm is told what was found. Assumes nothing.
 use mathlib.Core.Path.{sym, ap, _∙_}
 use borrow.Author.Needs.{needs}
-use Rattle.export_segment_parts.specs.Answers.{entryAnswer}
-use Rattle.export_segment_parts.proofs.fetulombo_segment_dynamic_entry.Statement.{statement}
-use Rattle.export_segment_parts.proofs.fetulombo_segment_dynamic_entry.Tie as tie
+use Rattle.export_segment_dynamic.specs.Answers.{entryAnswer}
+use Rattle.export_segment_dynamic.proofs.fetulombo_segment_dynamic_entry.Statement.{statement}
+use Rattle.export_segment_dynamic.proofs.fetulombo_segment_dynamic_entry.Tie as tie
 
 class-of-requires : tie.Need-class-of-requires
 class-of-requires c κs = search needs

@@ -1,9 +1,9 @@
--- `export_segment_parts::fetulombo_segment_data` meets its contract. Each arm is told what was found. Assumes nothing.
+-- `export_segment_data::fetulombo_segment_data` meets its contract. Each arm is told what was found. Assumes nothing.
 use mathlib.Core.Path.{sym, ap, _∙_}
 use borrow.Author.Needs.{needs}
-use Rattle.export_segment_parts.specs.Answers.{dataAnswer}
-use Rattle.export_segment_parts.proofs.fetulombo_segment_data.Statement.{statement}
-use Rattle.export_segment_parts.proofs.fetulombo_segment_data.Tie as tie
+use Rattle.export_segment_data.specs.Answers.{dataAnswer}
+use Rattle.export_segment_data.proofs.fetulombo_segment_data.Statement.{statement}
+use Rattle.export_segment_data.proofs.fetulombo_segment_data.Tie as tie
 
 entry-of-requires : tie.Need-entry-of-requires
 entry-of-requires c κs = search needs
