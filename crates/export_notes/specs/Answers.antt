@@ -1,37 +1,23 @@
--- The answers about notes and properties as C gets them: document 01's number of a refusal, or 0, and the values of each case; what a case
--- lacks is 0.
---     noNote, noteAnswer             of `NoteStep`; next is the place of the reader after the step
---     noteStepAnswer                 a step at a place, by the alignment's number
---     trimmedAnswer                  the length of a trimmed name
---     kindAnswer                     of `GnuProperties`: 1 if the note is of this kind
---     propertyReader                 a property reader at a place
---     noProperty, propertyAnswer     of `PropertyStep`, as of `NoteStep`
---     propertyNumberAnswer           of `PropertyNumber`
+-- The answers about notes as C gets them: document 01's number of a refusal, or 0, and the values of each case; what a case lacks is 0.
+--     noNote, noteAnswer    of `NoteStep`; next is the place of the reader after the step
+--     noteStepAnswer        a step at a place, by the alignment's number
+--     trimmedAnswer         the length of a trimmed name
 -- Assumes nothing.
 use Prim.Native.Nat.{ℕ}
 use mathlib.Core.Bool.{cond}
 use mathlib.Core.List.{List, [], _∷_}
 use lib.ListN.{length}
-use Rattle.endian.specs.declared.kinds.Class.{Class}
 use Rattle.endian.specs.declared.kinds.Order.{Order}
 use Rattle.endian.specs.Refusals.{anyLong, tooLong}
 use Rattle.note.specs.declared.reader.NoteStep.{NoteStep}
 use Rattle.note.specs.declared.reader.NoteStep.the-variants.{Note, End, Refused}
 use Rattle.note.specs.declared.reader.ReaderFor.{ReaderFor}
 use Rattle.note.specs.declared.reader.ReaderFor.the-variants.{Reader, Refused as Reader·Refused}
-use Rattle.note_properties.specs.declared.GnuProperties.{GnuProperties}
-use Rattle.note_properties.specs.declared.GnuProperties.the-variants.{Reader as Properties·Reader, NotThisKind, Refused as Properties·Refused}
-use Rattle.note_properties.specs.declared.PropertyReader.{PropertyReader}
-use Rattle.note_properties.specs.declared.PropertyStep.{PropertyStep}
-use Rattle.note_properties.specs.declared.PropertyStep.the-variants.{Property, End as Property·End, Refused as Property·Refused}
-use Rattle.note_properties.specs.declared.PropertyNumber.{PropertyNumber}
-use Rattle.note_properties.specs.declared.PropertyNumber.the-variants.{Number, Refused as Number·Refused}
 use Rattle.note.specs.Notes.{readerFor, to, noteStep}
 use Rattle.note.specs.Trim.{trimmedLength}
 use Rattle.export.specs.Answers.{number, noNumber}
 use Rattle.export.specs.declared.answers.NumberAnswer.{NumberAnswer}
 use Rattle.export_notes.specs.declared.NoteAnswer.{NoteAnswer}
-use Rattle.export_notes.specs.declared.PropertyAnswer.{PropertyAnswer}
 
 abbrev pub noNote : (refusal next : ℕ) → NoteAnswer
 noNote refusal next = record {
@@ -70,30 +56,3 @@ noteStepAnswer order align s at =
 
 abbrev pub trimmedAnswer : List ℕ → NumberAnswer
 trimmedAnswer name = cond (anyLong (name ∷ [])) (noNumber tooLong) (number (trimmedLength name))
-
-abbrev pub kindAnswer : GnuProperties → NumberAnswer
-kindAnswer (Properties·Reader reader) = number 1
-kindAnswer NotThisKind = number 0
-kindAnswer (Properties·Refused r) = noNumber r
-
-abbrev pub propertyReader : Class → Order → ℕ → PropertyReader
-propertyReader class order at = record { class = class; order = order; at = at }
-
-abbrev pub noProperty : (refusal next : ℕ) → PropertyAnswer
-noProperty refusal next = record { refusal = refusal; found = 0; kind = 0; start = 0; length = 0; next = next }
-
-abbrev pub propertyAnswer : PropertyStep → PropertyAnswer
-propertyAnswer (Property property next) = record {
-  refusal = 0;
-  found = 1;
-  kind = property .kind;
-  start = property .start;
-  length = property .size;
-  next = next .at;
-}
-propertyAnswer (Property·End next) = noProperty 0 (next .at)
-propertyAnswer (Property·Refused r next) = noProperty (r .0) (next .at)
-
-abbrev pub propertyNumberAnswer : PropertyNumber → NumberAnswer
-propertyNumberAnswer (Number n) = number n
-propertyNumberAnswer (Number·Refused r) = noNumber r

@@ -1,9 +1,9 @@
--- `export_notes::property_answer` meets its contract. Each arm is told which step it has. Assumes nothing.
+-- `export_properties::property_answer` meets its contract. Each arm is told which step it has. Assumes nothing.
 use mathlib.Core.Path.{_≡_, sym, ap, _∙_}
 use borrow.Author.Needs.{needs}
-use Rattle.export_notes.specs.Answers.{propertyAnswer}
-use Rattle.export_notes.proofs.property_answer.Statement.{statement}
-use Rattle.export_notes.proofs.property_answer.Tie as tie
+use Rattle.export_properties.specs.Answers.{propertyAnswer}
+use Rattle.export_properties.proofs.property_answer.Statement.{statement}
+use Rattle.export_properties.proofs.property_answer.Tie as tie
 
 enum-known-step : tie.Need-enum-known-step
 enum-known-step c = search needs

@@ -1,9 +1,9 @@
--- `export_notes::fetulombo_property_number` meets its contract. Each arm is told what was read. Assumes nothing.
+-- `export_properties::fetulombo_property_number` meets its contract. Each arm is told what was read. Assumes nothing.
 use mathlib.Core.Path.{_≡_, sym, ap, _∙_}
 use borrow.Author.Needs.{needs}
-use Rattle.export_notes.specs.Answers.{propertyNumberAnswer}
-use Rattle.export_notes.proofs.fetulombo_property_number.Statement.{statement}
-use Rattle.export_notes.proofs.fetulombo_property_number.Tie as tie
+use Rattle.export_properties.specs.Answers.{propertyNumberAnswer}
+use Rattle.export_properties.proofs.fetulombo_property_number.Statement.{statement}
+use Rattle.export_properties.proofs.fetulombo_property_number.Tie as tie
 
 order-of-requires : tie.Need-order-of-requires
 order-of-requires c κs = search needs

@@ -1,9 +1,9 @@
--- `export_notes::fetulombo_gnu_properties` meets its contract. Each arm is told what was found. Assumes nothing.
+-- `export_properties::fetulombo_gnu_properties` meets its contract. Each arm is told what was found. Assumes nothing.
 use mathlib.Core.Path.{_≡_, sym, ap, _∙_}
 use borrow.Author.Needs.{needs}
-use Rattle.export_notes.specs.Answers.{kindAnswer}
-use Rattle.export_notes.proofs.fetulombo_gnu_properties.Statement.{statement}
-use Rattle.export_notes.proofs.fetulombo_gnu_properties.Tie as tie
+use Rattle.export_properties.specs.Answers.{kindAnswer}
+use Rattle.export_properties.proofs.fetulombo_gnu_properties.Statement.{statement}
+use Rattle.export_properties.proofs.fetulombo_gnu_properties.Tie as tie
 
 class-of-requires : tie.Need-class-of-requires
 class-of-requires c κs = search needs

@@ -1,9 +1,9 @@
--- `export_notes::fetulombo_property_step` meets its contract. The step, as an answer. Assumes nothing.
+-- `export_properties::fetulombo_property_step` meets its contract. The step, as an answer. Assumes nothing.
 use mathlib.Core.Path.{_≡_, sym, ap, _∙_}
 use borrow.Author.Needs.{needs}
-use Rattle.export_notes.specs.Answers.{propertyAnswer}
-use Rattle.export_notes.proofs.fetulombo_property_step.Statement.{statement}
-use Rattle.export_notes.proofs.fetulombo_property_step.Tie as tie
+use Rattle.export_properties.specs.Answers.{propertyAnswer}
+use Rattle.export_properties.proofs.fetulombo_property_step.Statement.{statement}
+use Rattle.export_properties.proofs.fetulombo_property_step.Tie as tie
 
 class-of-requires : tie.Need-class-of-requires
 class-of-requires c κs = search needs
