@@ -1,32 +1,10 @@
 -- The answers of lookups as C gets them: document 01's number of a refusal, or 0, and the values of each case; what a case lacks is 0.
---     lookupAnswer                  of `Answer`
---     baseAnswer                    of `HeaderAt`: the number of the first hashed symbol
---     gnuLengthAnswer               of `TableLength`: known is 0 where the table says nothing of it
---     sysvLengthAnswer              of `ChainCount`
+--     lookupAnswer    of `Answer`
 -- Assumes nothing.
 use Rattle.lookup.specs.declared.Answer.{Answer}
-use Rattle.gnu_table.specs.declared.header.HeaderAt.{HeaderAt}
-use Rattle.gnu_length.specs.declared.TableLength.{TableLength}
-use Rattle.sysv_header.specs.declared.length.ChainCount.{ChainCount}
-use Rattle.export.specs.Answers.{number, noNumber}
-use Rattle.export.specs.declared.answers.NumberAnswer.{NumberAnswer}
 use Rattle.export_lookups.specs.declared.LookupAnswer.{LookupAnswer}
-use Rattle.export_lookups.specs.declared.LengthAnswer.{LengthAnswer}
 
 abbrev pub lookupAnswer : Answer → LookupAnswer
 lookupAnswer (Answer.Found symbol probes) = record { refusal = 0; found = 1; symbol = symbol .0; probes = probes }
 lookupAnswer (Answer.Missing probes) = record { refusal = 0; found = 0; symbol = 0; probes = probes }
 lookupAnswer (Answer.Refused r) = record { refusal = r .0; found = 0; symbol = 0; probes = 0 }
-
-abbrev pub baseAnswer : HeaderAt → NumberAnswer
-baseAnswer (HeaderAt.At layout) = number (layout .«symbol_base»)
-baseAnswer (HeaderAt.Refused r) = noNumber r
-
-abbrev pub gnuLengthAnswer : TableLength → LengthAnswer
-gnuLengthAnswer (TableLength.Symbols n) = record { refusal = 0; known = 1; symbols = n }
-gnuLengthAnswer TableLength.Nothing = record { refusal = 0; known = 0; symbols = 0 }
-gnuLengthAnswer (TableLength.Refused r) = record { refusal = r .0; known = 0; symbols = 0 }
-
-abbrev pub sysvLengthAnswer : ChainCount → NumberAnswer
-sysvLengthAnswer (ChainCount.Chains n) = number n
-sysvLengthAnswer (ChainCount.Refused r) = noNumber r

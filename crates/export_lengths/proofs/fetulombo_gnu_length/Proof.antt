@@ -1,9 +1,9 @@
--- `export_lookups::fetulombo_gnu_length` meets its contract. Each arm is told what the length is. Assumes nothing.
+-- `export_lengths::fetulombo_gnu_length` meets its contract. Each arm is told what the length is. Assumes nothing.
 use mathlib.Core.Path.{_≡_, sym, ap, _∙_}
-use Rattle.export_lookups.specs.Answers.{gnuLengthAnswer}
+use Rattle.export_lengths.specs.Answers.{gnuLengthAnswer}
 use borrow.Author.Needs.{needs}
-use Rattle.export_lookups.proofs.fetulombo_gnu_length.Statement.{statement}
-use Rattle.export_lookups.proofs.fetulombo_gnu_length.Tie as tie
+use Rattle.export_lengths.proofs.fetulombo_gnu_length.Statement.{statement}
+use Rattle.export_lengths.proofs.fetulombo_gnu_length.Tie as tie
 
 class-of-requires : tie.Need-class-of-requires
 class-of-requires c κs = search needs

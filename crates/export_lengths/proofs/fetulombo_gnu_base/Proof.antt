@@ -1,9 +1,9 @@
--- `export_lookups::fetulombo_gnu_base` meets its contract. Each arm is told what the header is. Assumes nothing.
+-- `export_lengths::fetulombo_gnu_base` meets its contract. Each arm is told what the header is. Assumes nothing.
 use mathlib.Core.Path.{_≡_, sym, ap, _∙_}
-use Rattle.export_lookups.specs.Answers.{baseAnswer}
+use Rattle.export_lengths.specs.Answers.{baseAnswer}
 use borrow.Author.Needs.{needs}
-use Rattle.export_lookups.proofs.fetulombo_gnu_base.Statement.{statement}
-use Rattle.export_lookups.proofs.fetulombo_gnu_base.Tie as tie
+use Rattle.export_lengths.proofs.fetulombo_gnu_base.Statement.{statement}
+use Rattle.export_lengths.proofs.fetulombo_gnu_base.Tie as tie
 
 class-of-requires : tie.Need-class-of-requires
 class-of-requires c κs = search needs
