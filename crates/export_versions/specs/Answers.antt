@@ -1,6 +1,5 @@
 -- The answers about versions as C gets them: document 01's number of a refusal, or 0, and the values of each case; what a case lacks is 0.
 --     needOf, versionIndex          the values behind the numbers that C passes: any version where needed is 0
---     parsedAnswer                  of `Parsed`: the highest index
 --     noVersion, versionAnswer      of `EntryAt`
 --     versymAnswer                  of `VersymAt`
 --     matchAnswer                   a match, refused where a part is too long
@@ -13,7 +12,6 @@ use Rattle.endian.specs.declared.kinds.Order.{Order}
 use Rattle.endian.specs.Refusals.{anyLong, tooLong}
 use Rattle.symbol.specs.declared.table.SymbolIndex.{SymbolIndex}
 use Rattle.version.specs.declared.index.VersionIndex.{VersionIndex}
-use Rattle.version_parse.specs.declared.parse.Parsed.{Parsed}
 use Rattle.version.specs.declared.table.EntryAt.{EntryAt}
 use Rattle.version.specs.declared.table.Need.{Need}
 use Rattle.version.specs.declared.table.VersymAt.{VersymAt}
@@ -28,10 +26,6 @@ needOf needed hash = cond (eqb needed 0) Need.Any (Need.Hash hash)
 
 abbrev pub versionIndex : ℕ → VersionIndex
 versionIndex n = record { 0 = n }
-
-abbrev pub parsedAnswer : Parsed → NumberAnswer
-parsedAnswer (Parsed.Highest index) = number (index .0)
-parsedAnswer (Parsed.Refused r) = noNumber r
 
 abbrev pub noVersion : (refusal special : ℕ) → VersionAnswer
 noVersion refusal special = record {

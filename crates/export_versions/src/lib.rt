@@ -3,7 +3,6 @@ use endian::refusals::LIMIT;
 use endian::refusals::TOO_LONG;
 use export::answers::NumberAnswer;
 use export::answers::no_number;
-use export::answers::number_answer;
 use export::answers::truth_answer;
 use export::kinds::order_of;
 use symbol::table::SymbolIndex;
@@ -11,13 +10,10 @@ use version::index::VersionIndex;
 use version::table::EntryAt;
 use version::table::Need;
 use version::table::VersymAt;
-use version_parse::parse::Parsed;
 ghost use mathlib.Core.Path.{_≡_};
-ghost use lib.ListN.{length};
-ghost use Rattle.version_parse.specs.Parse.{parsed, answerOf, storeAfter};
 ghost use Rattle.version.specs.Table.{entryAt, versymAt};
 ghost use Rattle.export.specs.Answers.{orderOf, symbolIndex};
-ghost use Rattle.export_versions.specs.Answers.{needOf, versionIndex, parsedAnswer, noVersion, versionAnswer, versymAnswer, matchAnswer};
+ghost use Rattle.export_versions.specs.Answers.{needOf, versionIndex, noVersion, versionAnswer, versymAnswer, matchAnswer};
 
 // What stands behind a version index: special is 1 for the indices 0 and 1, which name no version.
 #[repr(C)]
@@ -38,29 +34,6 @@ pub struct VersymAnswer {
     pub refusal: u64,
     pub index: u64,
     pub hidden: u64,
-}
-
-// Parses the definitions and the needs into the store, and answers the highest index. The store is
-// settled to its end, all 0 after a refusal.
-#[no_mangle]
-pub extern "C" fn fetulombo_versions_parse(
-    order: u8,
-    verdef: &[u8],
-    verneed: &[u8],
-    strings: &[u8],
-    store: &mut [u32],
-) -> NumberAnswer
-    ensures answer { λ r. ⌜ r
-        ≡ parsedAnswer (answerOf (parsed (orderOf order) (now (verdef .entry)) (now (verneed .entry)) (now (strings .entry))
-        (length (now (store .entry))))) ⌝ }
-    ensures after { λ r. ⌜ now (store .exit)
-        ≡ storeAfter (length (now (store .entry)))
-        (parsed (orderOf order) (now (verdef .entry)) (now (verneed .entry)) (now (strings .entry)) (length (now (store .entry)))) ⌝ }
-{
-    match version_parse::parse::parse(order_of(order), verdef, verneed, strings, store) {
-        Parsed::Highest(index) => number_answer(index.0 as u64),
-        Parsed::Refused(refusal) => no_number(refusal),
-    }
 }
 
 pub(crate) fn no_version(refusal: u32, special: u32) -> VersionAnswer

@@ -1,9 +1,9 @@
--- `export_versions::fetulombo_versions_parse` meets its contract. Each arm is told what was answered; the store is as `parse` leaves it. Assumes nothing.
+-- `export_version_parse::fetulombo_versions_parse` meets its contract. Each arm is told what was answered; the store is as `parse` leaves it. Assumes nothing.
 use mathlib.Core.Path.{_≡_, sym, ap, _∙_}
 use borrow.Author.Needs.{needs}
-use Rattle.export_versions.specs.Answers.{parsedAnswer}
-use Rattle.export_versions.proofs.fetulombo_versions_parse.Statement.{statement}
-use Rattle.export_versions.proofs.fetulombo_versions_parse.Tie as tie
+use Rattle.export_version_parse.specs.Answers.{parsedAnswer}
+use Rattle.export_version_parse.proofs.fetulombo_versions_parse.Statement.{statement}
+use Rattle.export_version_parse.proofs.fetulombo_versions_parse.Tie as tie
 
 order-of-requires : tie.Need-order-of-requires
 order-of-requires c κs = search needs
