@@ -1,9 +1,9 @@
--- `export_symbols::fetulombo_symbol_is_definition` meets its contract. Each arm is told what was said. Assumes nothing.
+-- `export_symbol_facts::fetulombo_symbol_is_definition` meets its contract. Each arm is told what was said. Assumes nothing.
 use mathlib.Core.Path.{_≡_, sym, ap, _∙_}
 use borrow.Author.Needs.{needs}
-use Rattle.export_symbols.specs.Answers.{definitionAnswer}
-use Rattle.export_symbols.proofs.fetulombo_symbol_is_definition.Statement.{statement}
-use Rattle.export_symbols.proofs.fetulombo_symbol_is_definition.Tie as tie
+use Rattle.export_symbol_facts.specs.Answers.{definitionAnswer}
+use Rattle.export_symbol_facts.proofs.fetulombo_symbol_is_definition.Statement.{statement}
+use Rattle.export_symbol_facts.proofs.fetulombo_symbol_is_definition.Tie as tie
 
 is-definition-requires : tie.Need-is-definition-requires
 is-definition-requires c κs = search needs

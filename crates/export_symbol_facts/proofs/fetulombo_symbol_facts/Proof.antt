@@ -1,8 +1,8 @@
--- `export_symbols::fetulombo_symbol_facts` meets its contract. Each fact is what its function says. Assumes nothing.
+-- `export_symbol_facts::fetulombo_symbol_facts` meets its contract. Each fact is what its function says. Assumes nothing.
 use borrow.Author.Needs.{needs}
 use Rattle.export.proofs.Truth.{truth-byte}
-use Rattle.export_symbols.proofs.fetulombo_symbol_facts.Statement.{statement}
-use Rattle.export_symbols.proofs.fetulombo_symbol_facts.Tie as tie
+use Rattle.export_symbol_facts.proofs.fetulombo_symbol_facts.Statement.{statement}
+use Rattle.export_symbol_facts.proofs.fetulombo_symbol_facts.Tie as tie
 
 bind-requires : tie.Need-bind-requires
 bind-requires c κs = search needs
