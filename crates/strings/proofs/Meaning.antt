@@ -1,23 +1,23 @@
 -- What `stringEquals` decides, for whoever cites it: a string is read there, and its bytes are the name's.
---     false-true                  what cannot be shows anything
 --     same-refl, same-true        `same` is equality
 --     equals-of, equals-name      a string that is read: equal exactly if its bytes are the name
 --     equals-refused              one that is not
+--     equals-long, equals-reads   `stringEquals` by the bytes from the offset on
 -- Assumes nothing.
-use Prim.Native.Nat.{ℕ}
+use Prim.Native.Nat.{ℕ, _<_, _≤_}
 use mathlib.Core.Path.{_≡_, refl, sym, _∙_, ap}
-use mathlib.Core.Bool.{Bool, true, false, cond}
+use mathlib.Core.Bool.{Bool, true, false, cond, _&&_}
 use mathlib.Core.List.{List, [], _∷_}
-use native.Mathlib.Omega.{arith}
 use lib.Dec.{eqb}
-use lib.ListN.{take, drop}
-use borrow.Author.Tests.{eq-eqb, eqb-true}
+use lib.ListN.{length, take, drop}
+use borrow.Author.Tests.{eq-eqb, eqb-true, lt-ltb, le-ltb}
+pub use Rattle.endian.proofs.Falsity.{false-true}
 use Rattle.endian.specs.declared.refusals.Refusal.{Refusal}
 use Rattle.strings.specs.declared.StringAt.the-variants.{At, Refused}
-use Rattle.strings.specs.Strings.{same, isName, stringAt, stringEquals}
-
-pub false-true : {A : Type 0} → false ≡ true → A
-false-true e = let z : _≡_ {A = ℕ} 0 1 = cc in absurd (omega arith)
+use Rattle.endian.specs.First.{first}
+use Rattle.endian.specs.Refusals.{limit, noString}
+use Rattle.name_match.specs.Reads.{text, reads}
+use Rattle.strings.specs.Strings.{isZero, readable, same, isName, stringAt, stringEquals}
 
 pub same-refl : (s : List ℕ) → same s s ≡ true
 same-refl [] = refl
@@ -46,3 +46,18 @@ module _ (strings : List ℕ) (offset : ℕ) (name : List ℕ) where
   pub equals-refused : (r : Refusal) → stringAt strings offset ≡ Refused r → stringEquals strings offset name ≡ false
   unfolding stringEquals
   equals-refused r refused = ap (isName strings name) refused
+
+module _ (s : List ℕ) (offset : ℕ) (name : List ℕ) where
+  pub equals-long : limit < length s → stringEquals s offset name ≡ false
+  unfolding stringEquals
+  equals-long long = simp (lt-ltb _ _ long)
+
+  pub equals-reads : length s ≤ limit → stringEquals s offset name ≡ reads (drop offset s) name
+  unfolding stringEquals reads text
+  equals-reads fits = rw (le-ltb limit (length s) fits) (by (readable (drop offset s)))
+    where
+      by : (t : Bool)
+          → isName s name (cond t (At offset (first isZero (drop offset s))) (Refused noString))
+          ≡ t && same (take (first isZero (drop offset s)) (drop offset s)) name
+      by true = refl
+      by false = refl

@@ -1,4 +1,5 @@
 -- Which strings can be read, by the last zero byte, and the search for it from the end.
+--     readable-true, -false    whether there is a zero from its start on
 --     readable-below       a string can be read exactly if it starts below the place after the last zero
 --     after-here           the byte before n is zero: that place is n
 --     after-next           it is another: look among the bytes before it
@@ -10,11 +11,20 @@ use mathlib.Core.Bool.{Bool, true, false, cond}
 use mathlib.Core.List.{List, [], _∷_, _++_}
 use native.Mathlib.Omega.{arith}
 use lib.Dec.{ltb, eqb}
-use lib.ListN.{length, getD, take, drop}
+use lib.ListN.{length, getD, take, drop, length-drop}
 use lib.Seq.{take-suc, take-length, length-take-le}
 use borrow.Author.Tests.{eq-eqb, ne-eqb, ltb-true, ltb-false, lt-ltb, le-ltb}
 use Rattle.endian.specs.First.{first}
 use Rattle.strings.specs.Strings.{isZero, readable, afterZero}
+
+module _ (s : List ℕ) (at : ℕ) where
+  pub readable-true : first isZero (drop at s) < length s - at → readable (drop at s) ≡ true
+  unfolding readable
+  readable-true h = rw length-drop (lt-ltb _ _ h)
+
+  pub readable-false : length s - at ≤ first isZero (drop at s) → readable (drop at s) ≡ false
+  unfolding readable
+  readable-false h = rw length-drop (le-ltb _ _ h)
 
 -- two tests of numbers that decide the same
 same-test : (a b c d : ℕ) → (a < b → c < d) → (b ≤ a → d ≤ c) → ltb a b ≡ ltb c d

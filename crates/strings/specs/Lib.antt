@@ -1,3 +1,1 @@
-pub mod Passed
-pub mod Reads
 pub mod Strings

@@ -6,20 +6,17 @@
 --     stringEquals        whether the string at an offset can be read and is the name
 -- Assumes nothing.
 use Prim.Native.Nat.{ℕ, suc}
-use mathlib.Core.Bool.{Bool, true, false, cond}
+use mathlib.Core.Bool.{Bool, false, cond}
 use mathlib.Core.List.{List, [], _∷_}
-use lib.Dec.{eqb, ltb}
+use lib.Dec.{ltb}
 use lib.ListN.{length, take, drop}
 use Rattle.endian.specs.First.{first}
 use Rattle.endian.specs.Refusals.{limit, tooLong, noString}
+pub use Rattle.zero_search.specs.Zeros.{isZero}
+pub use Rattle.name_match.specs.Reads.{same}
+unfoldable pub use Rattle.name_match.specs.Reads.{readable}
 use Rattle.strings.specs.declared.StringAt.{StringAt}
 use Rattle.strings.specs.declared.StringAt.the-variants.{At, Refused}
-
-abbrev pub isZero : ℕ → Bool
-isZero b = eqb b 0
-
-unfoldable pub readable : List ℕ → Bool
-readable rest = ltb (first isZero rest) (length rest)
 
 -- every string that can be read starts below it
 unfoldable pub afterZero : List ℕ → ℕ
@@ -31,12 +28,6 @@ stringAt strings offset =
     cond (ltb limit (length strings)) (Refused tooLong)
     (cond (readable (drop offset strings)) (At offset (first isZero (drop offset strings)))
     (Refused noString))
-
-abbrev pub same : List ℕ → List ℕ → Bool
-same [] [] = true
-same [] (c ∷ t) = false
-same (b ∷ s) [] = false
-same (b ∷ s) (c ∷ t) = cond (eqb b c) (same s t) false
 
 -- of what was read at an offset: a string, and equal to the name
 abbrev pub isName : List ℕ → List ℕ → StringAt → Bool

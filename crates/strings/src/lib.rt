@@ -1,11 +1,10 @@
 // Strings of a string table: the one at an offset, and whether it is a wanted name.
-mod equal;
-mod zeros;
-
 use endian::refusals::LIMIT;
 use endian::refusals::NO_STRING;
 use endian::refusals::Refusal;
 use endian::refusals::TOO_LONG;
+use name_match::reads_name;
+use zero_search::first_zero;
 ghost use mathlib.Core.Path.{_≡_};
 ghost use Rattle.strings.specs.Strings.{afterZero, stringAt, stringEquals};
 
@@ -24,10 +23,7 @@ pub fn string_at(strings: &[u8], offset: u32) -> StringAt
         return StringAt::Refused(TOO_LONG);
     }
     let start = offset as usize;
-    if strings.len() <= start {
-        return StringAt::Refused(NO_STRING);
-    }
-    let end = zeros::zero_from(strings, start);
+    let end = first_zero(strings, start);
     if end < strings.len() {
         return StringAt::At {
             start: start,
@@ -38,32 +34,14 @@ pub fn string_at(strings: &[u8], offset: u32) -> StringAt
 }
 
 // Whether `string_at` reads a string at the offset and it is the name, byte for byte. Compares while
-// reading, whole blocks first, and stops at the first difference.
+// reading, and stops at a difference.
 pub fn string_equals(strings: &[u8], offset: u32, name: &[u8]) -> bool
     ensures { λ r. ⌜ r ≡ stringEquals (now (strings .entry)) offset (now (name .entry)) ⌝ }
 {
-    let start = offset as usize;
     if LIMIT < strings.len() {
         return false;
     }
-    if strings.len() <= start {
-        return false;
-    }
-    if strings.len() - start <= name.len() {
-        return false;
-    }
-    let mut i = equal::same_blocks(strings, start, name);
-    while i < name.len() {
-        let b = strings[start + i];
-        if b != name[i] {
-            return false;
-        }
-        if b == 0 {
-            return false;
-        }
-        i += 1;
-    }
-    strings[start + name.len()] == 0
+    reads_name(strings, offset as usize, name)
 }
 
 // The place after the last zero byte, or 0: a string can be read exactly if it starts below it.

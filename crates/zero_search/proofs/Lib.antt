@@ -1,0 +1,2 @@
+-- `Passing`: the steps of a search for a zero.
+mod Passing
