@@ -2,7 +2,7 @@
 --     lookupAnswer    of `Answer`
 -- Assumes nothing.
 use Rattle.lookup.specs.declared.Answer.{Answer}
-use Rattle.export_lookups.specs.declared.LookupAnswer.{LookupAnswer}
+use Rattle.export_lookup.specs.declared.LookupAnswer.{LookupAnswer}
 
 abbrev pub lookupAnswer : Answer → LookupAnswer
 lookupAnswer (Answer.Found symbol probes) = record { refusal = 0; found = 1; symbol = symbol .0; probes = probes }

@@ -1,9 +1,9 @@
--- `export_lookups::lookup_answer` meets its contract. Each arm is told what was answered. Assumes nothing.
+-- `export_lookup::lookup_answer` meets its contract. Each arm is told what was answered. Assumes nothing.
 use mathlib.Core.Path.{_≡_, sym, ap, _∙_}
-use Rattle.export_lookups.specs.Answers.{lookupAnswer}
+use Rattle.export_lookup.specs.Answers.{lookupAnswer}
 use borrow.Author.Needs.{needs}
-use Rattle.export_lookups.proofs.lookup_answer.Statement.{statement}
-use Rattle.export_lookups.proofs.lookup_answer.Tie as tie
+use Rattle.export_lookup.proofs.lookup_answer.Statement.{statement}
+use Rattle.export_lookup.proofs.lookup_answer.Tie as tie
 
 enum-known-answer : tie.Need-enum-known-answer
 enum-known-answer c = search needs
