@@ -37,8 +37,9 @@ use Rattle.note_properties.specs.Properties.{propertyStep, start, to}
 use Rattle.note.specs.Walk.{none, onto, ended, stopped, notesWithin, notesFrom, sectionNotes}
 use Rattle.strings.specs.Strings.{readable}
 use Rattle.symbol.specs.Table.{symbolAt}
-use Rattle.version.specs.declared.table.Need.{Need}
-use Rattle.version.specs.Table.{storedAt, valid, entryAt, versymAt, matching}
+use Rattle.version_match.specs.declared.Need.{Need}
+use Rattle.version.specs.Table.{storedAt, valid, entryAt, versymAt}
+use Rattle.version_match.specs.Match.{matching}
 
 -- the names `a`, `b` and `ab`
 abbrev a : List ℕ

@@ -15,9 +15,9 @@ use Rattle.symbol.specs.declared.table.SymbolIndex.{SymbolIndex}
 use Rattle.version.specs.declared.index.VersionIndex.{VersionIndex}
 use Rattle.version_parse.specs.declared.parse.Parsed.{Parsed}
 use Rattle.version.specs.declared.table.EntryAt.{EntryAt}
-use Rattle.version.specs.declared.table.Need.{Need}
+use Rattle.version_match.specs.declared.Need.{Need}
 use Rattle.version.specs.declared.table.VersymAt.{VersymAt}
-use Rattle.version.specs.Table.{matching}
+use Rattle.version_match.specs.Match.{matching}
 use Rattle.export.specs.Answers.{number, noNumber, truth}
 use Rattle.export.specs.declared.answers.NumberAnswer.{NumberAnswer}
 use Rattle.export_versions.specs.declared.VersionAnswer.{VersionAnswer}

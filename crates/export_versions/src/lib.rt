@@ -9,8 +9,8 @@ use export::kinds::order_of;
 use symbol::table::SymbolIndex;
 use version::index::VersionIndex;
 use version::table::EntryAt;
-use version::table::Need;
 use version::table::VersymAt;
+use version_match::Need;
 use version_parse::parse::Parsed;
 ghost use mathlib.Core.Path.{_≡_};
 ghost use lib.ListN.{length};
@@ -164,7 +164,7 @@ pub extern "C" fn fetulombo_version_matches(
     if LIMIT < name.len() {
         return no_number(TOO_LONG);
     }
-    truth_answer(version::table::matches(
+    truth_answer(version_match::matches(
         order_of(order),
         versyms,
         store,

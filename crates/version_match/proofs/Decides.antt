@@ -17,14 +17,15 @@ use Rattle.endian.specs.Refusals.{limit}
 use Rattle.strings.specs.Strings.{same}
 use Rattle.strings.proofs.Meaning.{false-true, same-refl, same-true}
 use Rattle.symbol.specs.declared.table.SymbolIndex.{SymbolIndex}
-use Rattle.version.specs.Table.{entryAt, versymAt, nameOf, satisfied, matchOf, matching}
+use Rattle.version.specs.Table.{entryAt, versymAt}
+use Rattle.version_match.specs.Match.{nameOf, satisfied, matchOf, matching}
 use Rattle.version.specs.declared.store.Version.{Version}
 use Rattle.version.specs.declared.table.EntryAt.{EntryAt}
 use Rattle.version.specs.declared.table.Versym.{Versym}
 use Rattle.version.specs.declared.table.VersymAt.{VersymAt}
-use Rattle.version.specs.declared.table.Need.{Need}
-use Rattle.version.proofs.Compared.{part-short}
-use Rattle.version.proofs.Entered.{entry-valid, and-both}
+use Rattle.version_match.specs.declared.Need.{Need}
+use Rattle.version_match.proofs.Compared.{part-short}
+use Rattle.version_match.proofs.Entered.{entry-valid, and-both}
 
 -- the version of a symbol, with a hash and a name
 pub record Bound (order : Order) (versyms store strings : List ℕ) (symbol : SymbolIndex) (hash : ℕ)

@@ -1,4 +1,4 @@
--- `version::table::equal_at` meets its contract. The invariant: comparing the rest of the part with the rest of the name
+-- `version_match::equal_at` meets its contract. The invariant: comparing the rest of the part with the rest of the name
 -- gives the answer. The measure is what is left of the name. Assumes nothing.
 use Prim.Native.Nat.{_+_, _-_, _≤_}
 use mathlib.Core.Path.{_≡_, sym, _∙_}
@@ -6,10 +6,10 @@ use native.Mathlib.Omega.{arith}
 use native.Mathlib.Nat.{add-zero}
 use lib.ListN.{length, take, drop}
 use Rattle.strings.specs.Strings.{same}
-use Rattle.version.proofs.Compared.{same-step, same-stop, same-end}
+use Rattle.version_match.proofs.Compared.{same-step, same-stop, same-end}
 use borrow.Author.Needs.{needs}
-use Rattle.version.proofs.table.equal_at.Statement.{statement}
-use Rattle.version.proofs.table.equal_at.Tie as tie
+use Rattle.version_match.proofs.equal_at.Statement.{statement}
+use Rattle.version_match.proofs.equal_at.Tie as tie
 
 abbrev Inv-loop : tie.InvT-loop
 Inv-loop strings start name i₀ i-end i =

@@ -1,14 +1,14 @@
--- `version::table::is_needed` meets its contract. Hash, length and bytes, one after the other. Assumes nothing.
+-- `version_match::is_needed` meets its contract. Hash, length and bytes, one after the other. Assumes nothing.
 use borrow.Author.Tests.{eq-eqb, ne-eqb, leb-true}
 use Prim.Native.Nat.{_+_, _≤_}
 use mathlib.Core.Path.{sym, _∙_}
 use native.Mathlib.Omega.{arith}
 use lib.ListN.{length}
-use Rattle.version.specs.Table.{nameOf}
-use Rattle.version.proofs.Compared.{part-length, same-apart}
+use Rattle.version_match.specs.Match.{nameOf}
+use Rattle.version_match.proofs.Compared.{part-length, same-apart}
 use borrow.Author.Needs.{needs}
-use Rattle.version.proofs.table.is_needed.Statement.{statement}
-use Rattle.version.proofs.table.is_needed.Tie as tie
+use Rattle.version_match.proofs.is_needed.Statement.{statement}
+use Rattle.version_match.proofs.is_needed.Tie as tie
 
 returns : tie.Need-returns
 returns c = simp (ne-eqb _ _ (c .if1 .taken))

@@ -1,14 +1,14 @@
--- `version::table::matches` meets its contract. Each return is a case of `satisfied`. Assumes nothing.
+-- `version_match::matches` meets its contract. Each return is a case of `satisfied`. Assumes nothing.
 use mathlib.Core.Path.{_≡_, sym, ap, _∙_}
 use mathlib.Core.Bool.{Bool}
-use Rattle.version.specs.Table.{satisfied, matchOf, matching}
+use Rattle.version_match.specs.Match.{satisfied, matchOf, matching}
 use Rattle.version.specs.declared.table.EntryAt.{EntryAt}
 use Rattle.version.specs.declared.table.Versym.{Versym}
-use Rattle.version.specs.declared.table.Need.{Need}
-use Rattle.version.proofs.Entered.{name-inside}
+use Rattle.version_match.specs.declared.Need.{Need}
+use Rattle.version_match.proofs.Entered.{name-inside}
 use borrow.Author.Needs.{needs}
-use Rattle.version.proofs.table.matches.Statement.{statement}
-use Rattle.version.proofs.table.matches.Tie as tie
+use Rattle.version_match.proofs.matches.Statement.{statement}
+use Rattle.version_match.proofs.matches.Tie as tie
 
 -- where the entry behind the symbol's index has been looked for
 module _ (k : tie.After-entry) where
