@@ -10,7 +10,7 @@
 -- Assumes nothing.
 use Prim.Native.Nat.{ℕ}
 use Rattle.note.specs.Notes.{alignSize}
-use Rattle.segment.specs.declared.entry.Segment.{Segment}
+use Rattle.segment_entry.specs.declared.Segment.{Segment}
 use Rattle.segment_data.specs.declared.part.SegmentData.{SegmentData}
 use Rattle.segment_data.specs.declared.part.SegmentData.the-variants.{At as Data·At, Refused as Data·Refused}
 use Rattle.segment_data.specs.declared.part.SegmentDataRange.{SegmentDataRange}

@@ -1,6 +1,6 @@
 // One segment, and what its fields say.
 ghost use mathlib.Core.Path.{_≡_};
-ghost use Rattle.segment.specs.Entry.{fileRange, permissionsOf, kindOf};
+ghost use Rattle.segment_entry.specs.Entry.{fileRange, permissionsOf, kindOf};
 
 // The gABI's segment types.
 pub const PT_LOAD: u32 = 1;

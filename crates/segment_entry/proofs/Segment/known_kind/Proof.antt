@@ -1,7 +1,7 @@
--- `segment::entry::Segment::known_kind` meets its contract. Each answer is the one that its tests pick. Assumes nothing.
+-- `segment_entry::Segment::known_kind` meets its contract. Each answer is the one that its tests pick. Assumes nothing.
 use borrow.Author.Tests.{eq-eqb, ne-eqb}
-use Rattle.segment.proofs.entry.Segment.known_kind.Statement.{statement}
-use Rattle.segment.proofs.entry.Segment.known_kind.Tie as tie
+use Rattle.segment_entry.proofs.Segment.known_kind.Statement.{statement}
+use Rattle.segment_entry.proofs.Segment.known_kind.Tie as tie
 
 returns : tie.Need-returns
 returns c = simp (eq-eqb _ _ (c .if1 .taken))

@@ -7,11 +7,11 @@
 use Prim.Native.Nat.{ℕ, _/_, _%_}
 use mathlib.Core.Bool.{Bool, cond}
 use lib.Dec.{eqb}
-use Rattle.segment.specs.declared.entry.Segment.{Segment}
-use Rattle.segment.specs.declared.entry.FileRange.{FileRange}
-use Rattle.segment.specs.declared.entry.Permissions.{Permissions}
-use Rattle.segment.specs.declared.entry.SegmentKind.{SegmentKind}
-use Rattle.segment.specs.declared.entry.SegmentKind.the-variants.{Load, Dynamic, Interpreter, Note, Other}
+use Rattle.segment_entry.specs.declared.Segment.{Segment}
+use Rattle.segment_entry.specs.declared.FileRange.{FileRange}
+use Rattle.segment_entry.specs.declared.Permissions.{Permissions}
+use Rattle.segment_entry.specs.declared.SegmentKind.{SegmentKind}
+use Rattle.segment_entry.specs.declared.SegmentKind.the-variants.{Load, Dynamic, Interpreter, Note, Other}
 
 abbrev pub fileRange : Segment → FileRange
 fileRange segment = record { offset = segment .offset; size = segment .filesz }
