@@ -4,8 +4,8 @@
 -- Assumes nothing.
 use Prim.Native.Nat.{ℕ}
 use Rattle.symbol_entry.specs.declared.Symbol.{Symbol}
-use Rattle.symbol_entry.specs.declared.Definition.{Definition}
-use Rattle.symbol_entry.specs.declared.Definition.the-variants.{Is, Refused as Definition·Refused}
+use Rattle.symbol_definition.specs.declared.Definition.{Definition}
+use Rattle.symbol_definition.specs.declared.Definition.the-variants.{Is, Refused as Definition·Refused}
 use Rattle.symbol.specs.declared.table.SymbolCount.{SymbolCount}
 use Rattle.symbol.specs.declared.table.SymbolCount.the-variants.{Symbols, Refused as Count·Refused}
 use Rattle.symbol.specs.declared.table.SymbolAt.{SymbolAt}

@@ -10,10 +10,10 @@ use export::kinds::order_of;
 use symbol::table::SymbolAt;
 use symbol::table::SymbolCount;
 use symbol::table::SymbolIndex;
-use symbol_entry::Definition;
+use symbol_definition::Definition;
 use symbol_entry::Symbol;
 ghost use mathlib.Core.Path.{_≡_};
-ghost use Rattle.symbol_entry.specs.Entry.{definition};
+ghost use Rattle.symbol_definition.specs.Definition.{definition};
 ghost use Rattle.symbol.specs.Table.{symbolCount, symbolAt, symbolName};
 ghost use Rattle.export.specs.Answers.{classOf, orderOf, placeOf, symbolIndex};
 ghost use Rattle.export_symbols.specs.Answers.{countAnswer, symbolAnswer, definitionAnswer, entry, facts};
@@ -151,7 +151,7 @@ pub extern "C" fn fetulombo_symbol_is_definition(
         other: 0,
         shndx: shndx,
     };
-    match symbol.is_definition(strings) {
+    match symbol_definition::is_definition(symbol, strings) {
         Definition::Is(is) => truth_answer(is),
         Definition::Refused(refusal) => no_number(refusal),
     }

@@ -1,8 +1,8 @@
--- `symbol_entry::is_reserved` meets its contract. Each answer is the one that its tests pick. Assumes nothing.
+-- `symbol_definition::is_reserved` meets its contract. Each answer is the one that its tests pick. Assumes nothing.
 use borrow.Author.Tests.{eq-eqb, ne-eqb, le-leb, lt-leb}
-use Rattle.symbol_entry.specs.Entry.{reservedSection}
-use Rattle.symbol_entry.proofs.is_reserved.Statement.{statement}
-use Rattle.symbol_entry.proofs.is_reserved.Tie as tie
+use Rattle.symbol_definition.specs.Definition.{reservedSection}
+use Rattle.symbol_definition.proofs.is_reserved.Statement.{statement}
+use Rattle.symbol_definition.proofs.is_reserved.Tie as tie
 
 returns : tie.Need-returns
 unfolding reservedSection

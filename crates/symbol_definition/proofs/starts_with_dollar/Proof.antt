@@ -1,10 +1,10 @@
--- `symbol_entry::starts_with_dollar` meets its contract. Each arm is told what `string_at` answered. Assumes nothing.
+-- `symbol_definition::starts_with_dollar` meets its contract. Each arm is told what `string_at` answered. Assumes nothing.
 use mathlib.Core.Path.{_≡_, sym, ap, _∙_}
 use borrow.Author.Needs.{needs}
 use borrow.Author.Tests.{eq-eqb, ne-eqb}
-use Rattle.symbol_entry.specs.Entry.{dollar, startsWithDollar}
-use Rattle.symbol_entry.proofs.starts_with_dollar.Statement.{statement}
-use Rattle.symbol_entry.proofs.starts_with_dollar.Tie as tie
+use Rattle.symbol_definition.specs.Definition.{dollar, startsWithDollar}
+use Rattle.symbol_definition.proofs.starts_with_dollar.Statement.{statement}
+use Rattle.symbol_definition.proofs.starts_with_dollar.Tie as tie
 
 string-at-requires : tie.Need-string-at-requires
 string-at-requires c κs = search needs

@@ -1,22 +1,23 @@
--- `symbol_entry::Symbol::is_definition` meets its contract. Each answer is the one that its tests pick. Assumes nothing.
+-- `symbol_definition::is_definition` meets its contract. Each answer is the one that its tests pick. Assumes nothing.
 use mathlib.Core.Path.{_≡_, sym, ap, _∙_}
 use mathlib.Core.Bool.{Bool, true, false, not, cond}
 use lib.Dec.{eqb}
 use borrow.Author.Needs.{needs}
 use borrow.Author.Tests.{lt-ltb, le-ltb, eq-eqb, ne-eqb}
-use Rattle.symbol_entry.specs.declared.Definition.{Definition}
-use Rattle.symbol_entry.specs.declared.Definition.the-variants.{Is}
-use Rattle.symbol_entry.specs.Entry.{definition, isLocal, startsWithDollar, typeOf}
-use Rattle.symbol_entry.proofs.Symbol.is_definition.Statement.{statement}
-use Rattle.symbol_entry.proofs.Symbol.is_definition.Tie as tie
+use Rattle.symbol_definition.specs.declared.Definition.{Definition}
+use Rattle.symbol_definition.specs.declared.Definition.the-variants.{Is}
+use Rattle.symbol_entry.specs.Entry.{isLocal}
+use Rattle.symbol_definition.specs.Definition.{definition, startsWithDollar}
+use Rattle.symbol_definition.proofs.is_definition.Statement.{statement}
+use Rattle.symbol_definition.proofs.is_definition.Tie as tie
 
 -- once the strings fit and the section is none of the reserved, the type decides
 by-type : (c : tie.After-kind)
     → let args = c .before .before .before .before .before .args in
-    definition (args .strings .now) (args .self)
+    definition (args .strings .now) (args .symbol)
     ≡ Is (cond (eqb (c .kind .result) 2) true
     (cond (eqb (c .kind .result) 1) true
-    (cond (eqb (c .kind .result) 0) (cond (isLocal (args .self)) (not (startsWithDollar (args .strings .now) (args .self .name))) true)
+    (cond (eqb (c .kind .result) 0) (cond (isLocal (args .symbol)) (not (startsWithDollar (args .strings .now) (args .symbol .name))) true)
     false)))
 by-type c =
     let fits = c .before .before .before .if1 .left in
