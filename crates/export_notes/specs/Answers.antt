@@ -21,11 +21,11 @@ use Rattle.note.specs.declared.reader.ReaderFor.{ReaderFor}
 use Rattle.note.specs.declared.reader.ReaderFor.the-variants.{Reader, Refused as Reader·Refused}
 use Rattle.note_properties.specs.declared.GnuProperties.{GnuProperties}
 use Rattle.note_properties.specs.declared.GnuProperties.the-variants.{Reader as Properties·Reader, NotThisKind, Refused as Properties·Refused}
-use Rattle.note_properties.specs.declared.PropertyReader.{PropertyReader}
-use Rattle.note_properties.specs.declared.PropertyStep.{PropertyStep}
-use Rattle.note_properties.specs.declared.PropertyStep.the-variants.{Property, End as Property·End, Refused as Property·Refused}
-use Rattle.note_properties.specs.declared.PropertyNumber.{PropertyNumber}
-use Rattle.note_properties.specs.declared.PropertyNumber.the-variants.{Number, Refused as Number·Refused}
+use Rattle.property_reader.specs.declared.PropertyReader.{PropertyReader}
+use Rattle.property_reader.specs.declared.PropertyStep.{PropertyStep}
+use Rattle.property_reader.specs.declared.PropertyStep.the-variants.{Property, End as Property·End, Refused as Property·Refused}
+use Rattle.property_reader.specs.declared.PropertyNumber.{PropertyNumber}
+use Rattle.property_reader.specs.declared.PropertyNumber.the-variants.{Number, Refused as Number·Refused}
 use Rattle.note.specs.Notes.{readerFor, to, noteStep}
 use Rattle.note.specs.Trim.{trimmedLength}
 use Rattle.export.specs.Answers.{number, noNumber}

@@ -13,9 +13,9 @@ use borrow.Author.Tests.{lt-ltb, le-ltb, le-leb, lt-leb}
 use lib.ListN.{length}
 use Rattle.endian.specs.Refusals.{limit, tooLong, badProperty}
 use Rattle.endian.specs.Word.{wordAt}
-use Rattle.note_properties.specs.Properties.{propertyStep, to, atEnd, header, kind, size, nextFrom, propertyOf, propertyAlign}
-use Rattle.note_properties.specs.declared.PropertyReader.{PropertyReader}
-use Rattle.note_properties.specs.declared.PropertyStep.the-variants.{Property as Step·Property, End, Refused}
+use Rattle.property_reader.specs.Reader.{propertyStep, to, atEnd, header, kind, size, nextFrom, propertyOf, propertyAlign}
+use Rattle.property_reader.specs.declared.PropertyReader.{PropertyReader}
+use Rattle.property_reader.specs.declared.PropertyStep.the-variants.{Property as Step·Property, End, Refused}
 use Rattle.note.proofs.Aligned.{aligned-le}
 
 module _ (r : PropertyReader) (s : List ℕ) where

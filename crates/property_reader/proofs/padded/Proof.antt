@@ -1,8 +1,8 @@
--- `note_properties::padded` meets its contract. Each arm is its class's own. Assumes nothing.
+-- `property_reader::padded` meets its contract. Each arm is its class's own. Assumes nothing.
 use borrow.Author.Needs.{needs}
 use native.Mathlib.Omega.{arith}
-use Rattle.note_properties.proofs.padded.Statement.{statement}
-use Rattle.note_properties.proofs.padded.Tie as tie
+use Rattle.property_reader.proofs.padded.Statement.{statement}
+use Rattle.property_reader.proofs.padded.Tie as tie
 
 enum-told : tie.Need-enum-told
 enum-told c = search needs

@@ -1,12 +1,12 @@
--- `note_properties::PropertyReader::step` meets its contract. Each answer is the one that its tests pick. Assumes nothing.
+-- `property_reader::PropertyReader::step` meets its contract. Each answer is the one that its tests pick. Assumes nothing.
 use mathlib.Core.Path.{_≡_, sym, ap, _∙_}
 use Rattle.endian.specs.Refusals.{tooLong, badProperty}
-use Rattle.note_properties.specs.declared.PropertyStep.the-variants.{Refused}
-use Rattle.note_properties.specs.Properties.{nextFrom}
-use Rattle.note_properties.proofs.Steps.{kind-read, step-long, step-end, step-short, step-refused, step-property}
+use Rattle.property_reader.specs.declared.PropertyStep.the-variants.{Refused}
+use Rattle.property_reader.specs.Reader.{nextFrom}
+use Rattle.property_reader.proofs.Steps.{kind-read, step-long, step-end, step-short, step-refused, step-property}
 use borrow.Author.Needs.{needs}
-use Rattle.note_properties.proofs.PropertyReader.step.Statement.{statement}
-use Rattle.note_properties.proofs.PropertyReader.step.Tie as tie
+use Rattle.property_reader.proofs.PropertyReader.step.Statement.{statement}
+use Rattle.property_reader.proofs.PropertyReader.step.Tie as tie
 
 moved-requires : tie.Need-moved-requires
 moved-requires c κs = search needs

@@ -1,8 +1,8 @@
--- `note_properties::property_number` meets its contract. Each answer is the one that its tests pick. Assumes nothing.
+-- `property_reader::property_number` meets its contract. Each answer is the one that its tests pick. Assumes nothing.
 use borrow.Author.Tests.{lt-ltb, le-ltb}
 use borrow.Author.Needs.{needs}
-use Rattle.note_properties.proofs.property_number.Statement.{statement}
-use Rattle.note_properties.proofs.property_number.Tie as tie
+use Rattle.property_reader.proofs.property_number.Statement.{statement}
+use Rattle.property_reader.proofs.property_number.Tie as tie
 
 returns : tie.Need-returns
 returns c = simp (lt-ltb _ _ (c .if1 .taken))
