@@ -29,16 +29,18 @@ use Rattle.lookup.specs.declared.Answer.{Answer}
 use Rattle.lookup.specs.declared.Answer.the-variants.{Found, Missing}
 use Rattle.lookup.specs.Wanted.{nameOf, symbolIndex, wantedIn}
 use Rattle.name_hash.specs.Hash.{gnuHash, sysvHash}
-use Rattle.note_properties.specs.declared.Property.{Property}
-use Rattle.note_properties.specs.declared.PropertyStep.the-variants.{Property as Step·Property, Refused}
+use Rattle.property_reader.specs.declared.Property.{Property}
+use Rattle.property_reader.specs.declared.PropertyStep.the-variants.{Property as Step·Property, Refused}
 use Rattle.note.specs.declared.reader.Note.{Note}
 use Rattle.note.specs.Notes.{noteStep}
-use Rattle.note_properties.specs.Properties.{propertyStep, start, to}
+use Rattle.property_reader.specs.Reader.{propertyStep, to}
+use Rattle.note_properties.specs.Properties.{start}
 use Rattle.note.specs.Walk.{none, onto, ended, stopped, notesWithin, notesFrom, sectionNotes}
 use Rattle.strings.specs.Strings.{readable}
 use Rattle.symbol.specs.Table.{symbolAt}
-use Rattle.version.specs.declared.table.Need.{Need}
-use Rattle.version.specs.Table.{storedAt, valid, entryAt, versymAt, matching}
+use Rattle.version_match.specs.declared.Need.{Need}
+use Rattle.version.specs.Table.{storedAt, valid, entryAt, versymAt}
+use Rattle.version_match.specs.Match.{matching}
 
 -- the names `a`, `b` and `ab`
 abbrev a : List ℕ

@@ -3,7 +3,7 @@
 --     noPart, part    no part of the file, and one
 -- Assumes nothing.
 use Prim.Native.Nat.{ℕ}
-use Rattle.segment.specs.declared.entry.Segment.{Segment}
+use Rattle.segment_entry.specs.declared.Segment.{Segment}
 use Rattle.export_part.specs.declared.PartAnswer.{PartAnswer}
 
 abbrev pub entry : (kind offset vaddr filesz align : ℕ) → Segment

@@ -1,6 +1,6 @@
 // What the exported functions about a segment's parts share: a segment of the numbers that C passes, and
 // the struct that they hand back.
-use segment::entry::Segment;
+use segment_entry::Segment;
 ghost use mathlib.Core.Path.{_≡_};
 ghost use Rattle.export_part.specs.Answers.{entry, noPart, part};
 

@@ -9,11 +9,11 @@ use Rattle.endian.specs.declared.kinds.Class.{Class}
 use Rattle.endian.specs.declared.kinds.Order.{Order}
 use Rattle.note_properties.specs.declared.GnuProperties.{GnuProperties}
 use Rattle.note_properties.specs.declared.GnuProperties.the-variants.{Reader, NotThisKind, Refused as Properties·Refused}
-use Rattle.note_properties.specs.declared.PropertyReader.{PropertyReader}
-use Rattle.note_properties.specs.declared.PropertyStep.{PropertyStep}
-use Rattle.note_properties.specs.declared.PropertyStep.the-variants.{Property, End, Refused}
-use Rattle.note_properties.specs.declared.PropertyNumber.{PropertyNumber}
-use Rattle.note_properties.specs.declared.PropertyNumber.the-variants.{Number, Refused as Number·Refused}
+use Rattle.property_reader.specs.declared.PropertyReader.{PropertyReader}
+use Rattle.property_reader.specs.declared.PropertyStep.{PropertyStep}
+use Rattle.property_reader.specs.declared.PropertyStep.the-variants.{Property, End, Refused}
+use Rattle.property_reader.specs.declared.PropertyNumber.{PropertyNumber}
+use Rattle.property_reader.specs.declared.PropertyNumber.the-variants.{Number, Refused as Number·Refused}
 use Rattle.export.specs.Answers.{number, noNumber}
 use Rattle.export.specs.declared.answers.NumberAnswer.{NumberAnswer}
 use Rattle.export_properties.specs.declared.PropertyAnswer.{PropertyAnswer}

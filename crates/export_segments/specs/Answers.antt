@@ -5,10 +5,10 @@
 --     kindNumber, facts       of `SegmentKind`, by the gABI's number of the type; and with the permissions
 -- Assumes nothing.
 use Prim.Native.Nat.{ℕ}
-use Rattle.segment.specs.Entry.{kindOf, permissionsOf}
-use Rattle.segment.specs.declared.entry.Segment.{Segment}
-use Rattle.segment.specs.declared.entry.SegmentKind.{SegmentKind}
-use Rattle.segment.specs.declared.entry.SegmentKind.the-variants.{Load, Dynamic, Interpreter, Note, Other}
+use Rattle.segment_entry.specs.Entry.{kindOf, permissionsOf}
+use Rattle.segment_entry.specs.declared.Segment.{Segment}
+use Rattle.segment_entry.specs.declared.SegmentKind.{SegmentKind}
+use Rattle.segment_entry.specs.declared.SegmentKind.the-variants.{Load, Dynamic, Interpreter, Note, Other}
 use Rattle.segment.specs.declared.table.SegmentCount.{SegmentCount}
 use Rattle.segment.specs.declared.table.SegmentCount.the-variants.{Segments, Refused as Count·Refused}
 use Rattle.segment.specs.declared.table.SegmentAt.{SegmentAt}

@@ -4,8 +4,8 @@
 -- Assumes nothing.
 use Prim.Native.Nat.{ℕ}
 use Rattle.symbol_entry.specs.declared.Symbol.{Symbol}
-use Rattle.symbol_entry.specs.declared.Definition.{Definition}
-use Rattle.symbol_entry.specs.declared.Definition.the-variants.{Is, Refused}
+use Rattle.symbol_definition.specs.declared.Definition.{Definition}
+use Rattle.symbol_definition.specs.declared.Definition.the-variants.{Is, Refused}
 use Rattle.symbol_entry.specs.Entry.{bindOf, typeOf, visibilityOf, isUndefined, isCommon, isAbsolute, isLocal, isWeak}
 use Rattle.export.specs.declared.answers.NumberAnswer.{NumberAnswer}
 use Rattle.export.specs.Answers.{number, noNumber, truth}

@@ -3,10 +3,11 @@
 use export::answers::NumberAnswer;
 use export::answers::no_number;
 use export::answers::truth_answer;
-use symbol_entry::Definition;
+use symbol_definition::Definition;
+use symbol_definition::is_definition;
 use symbol_entry::Symbol;
 ghost use mathlib.Core.Path.{_≡_};
-ghost use Rattle.symbol_entry.specs.Entry.{definition};
+ghost use Rattle.symbol_definition.specs.Definition.{definition};
 ghost use Rattle.export_symbol_facts.specs.Answers.{definitionAnswer, entry, facts};
 
 // What a symbol's info, other and section number say; the last five are 0 or 1.
@@ -65,7 +66,7 @@ pub extern "C" fn fetulombo_symbol_is_definition(
         other: 0,
         shndx: shndx,
     };
-    match symbol.is_definition(strings) {
+    match is_definition(symbol, strings) {
         Definition::Is(is) => truth_answer(is),
         Definition::Refused(refusal) => no_number(refusal),
     }

@@ -1,28 +1,15 @@
 -- The answers about versions as C gets them: document 01's number of a refusal, or 0, and the values of each case; what a case lacks is 0.
---     needOf, versionIndex          the values behind the numbers that C passes: any version where needed is 0
+--     versionIndex                  the value behind a number that C passes
 --     noVersion, versionAnswer      of `EntryAt`
 --     versymAnswer                  of `VersymAt`
---     matchAnswer                   a match, refused where a part is too long
 -- Assumes nothing.
 use Prim.Native.Nat.{ℕ}
-use mathlib.Core.Bool.{cond}
-use mathlib.Core.List.{List, [], _∷_}
-use lib.Dec.{eqb}
-use Rattle.endian.specs.declared.kinds.Order.{Order}
-use Rattle.endian.specs.Refusals.{anyLong, tooLong}
-use Rattle.symbol.specs.declared.table.SymbolIndex.{SymbolIndex}
 use Rattle.version.specs.declared.index.VersionIndex.{VersionIndex}
 use Rattle.version.specs.declared.table.EntryAt.{EntryAt}
-use Rattle.version.specs.declared.table.Need.{Need}
 use Rattle.version.specs.declared.table.VersymAt.{VersymAt}
-use Rattle.version.specs.Table.{matching}
-use Rattle.export.specs.Answers.{number, noNumber, truth}
-use Rattle.export.specs.declared.answers.NumberAnswer.{NumberAnswer}
+use Rattle.export.specs.Answers.{truth}
 use Rattle.export_versions.specs.declared.VersionAnswer.{VersionAnswer}
 use Rattle.export_versions.specs.declared.VersymAnswer.{VersymAnswer}
-
-abbrev pub needOf : (needed hash : ℕ) → Need
-needOf needed hash = cond (eqb needed 0) Need.Any (Need.Hash hash)
 
 abbrev pub versionIndex : ℕ → VersionIndex
 versionIndex n = record { 0 = n }
@@ -56,8 +43,3 @@ versionAnswer (EntryAt.Refused r) = noVersion (r .0) 0
 abbrev pub versymAnswer : VersymAt → VersymAnswer
 versymAnswer (VersymAt.At v) = record { refusal = 0; index = v .index .0; hidden = truth (v .hidden) }
 versymAnswer (VersymAt.Refused r) = record { refusal = r .0; index = 0; hidden = 0 }
-
-abbrev pub matchAnswer : Order → (versyms store strings : List ℕ) → SymbolIndex → Need → (name : List ℕ) → NumberAnswer
-matchAnswer order versyms store strings symbol need name =
-    cond (anyLong (versyms ∷ strings ∷ name ∷ [])) (noNumber tooLong)
-    (number (truth (matching order versyms store strings symbol need name)))

@@ -12,8 +12,8 @@ use Rattle.endian.specs.declared.kinds.Class.{Class}
 use Rattle.endian.specs.declared.kinds.Order.{Order}
 use Rattle.endian.specs.declared.refusals.Refusal.{Refusal}
 use Rattle.endian.specs.Refusals.{anyLong, tooLong}
-use Rattle.version.specs.declared.table.Need.{Need}
-use Rattle.version.specs.Table.{matching}
+use Rattle.version_match.specs.declared.Need.{Need}
+use Rattle.version_match.specs.Match.{matching}
 use Rattle.lookup.specs.declared.Answer.{Answer}
 use Rattle.lookup.specs.declared.Answer.the-variants.{Found, Missing, Refused}
 use Rattle.lookup.specs.Wanted.{Parts, Asked, allParts, nameOf, symbolIndex, wanted, unlessFault}

@@ -14,7 +14,7 @@ use gnu_table::header::header;
 use lookup::Answer;
 use symbol::table::SymbolCount;
 use symbol::table::symbol_count;
-use version::table::Need;
+use version_match::Need;
 ghost use mathlib.Core.Path.{_≡_};
 ghost use mathlib.Core.List.{[], _∷_};
 ghost use Prim.Native.Nat.{min};

@@ -5,7 +5,7 @@ use gnu_table::words::word_of;
 use lookup::Answer;
 use lookup::is_wanted;
 use symbol::table::SymbolIndex;
-use version::table::Need;
+use version_match::Need;
 ghost use mathlib.Core.Path.{_≡_};
 ghost use Prim.Native.Nat.{_≤_};
 ghost use Rattle.gnu.specs.Walk.{walkPairs};

@@ -23,8 +23,8 @@ use Rattle.strings.proofs.Meaning.{same-refl}
 use Rattle.name_hash.specs.Hash.{gnuHash}
 use Rattle.symbol.specs.declared.table.SymbolIndex.{SymbolIndex}
 use Rattle.symbol.specs.Table.{symbolSize}
-use Rattle.version.specs.declared.table.Need.{Need}
-use Rattle.version.specs.Table.{matching}
+use Rattle.version_match.specs.declared.Need.{Need}
+use Rattle.version_match.specs.Match.{matching}
 use Rattle.lookup.specs.declared.Answer.{Answer}
 use Rattle.lookup.specs.declared.Answer.the-variants.{Found, Missing, Refused}
 use Rattle.lookup.specs.Pick.{from, firstOf}

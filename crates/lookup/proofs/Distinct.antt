@@ -14,9 +14,9 @@ use Rattle.endian.specs.declared.kinds.Order.{Order}
 use Rattle.strings.specs.Strings.{same}
 use Rattle.strings.proofs.Meaning.{false-true, same-true}
 use Rattle.symbol.specs.declared.table.SymbolIndex.{SymbolIndex}
-use Rattle.version.specs.declared.table.Need.{Need}
-use Rattle.version.specs.Table.{matching}
-use Rattle.version.proofs.Matches.{match-one}
+use Rattle.version_match.specs.declared.Need.{Need}
+use Rattle.version_match.specs.Match.{matching}
+use Rattle.version_match.proofs.Decides.{match-one}
 use Rattle.lookup.specs.declared.Answer.{Answer}
 use Rattle.lookup.specs.declared.Answer.the-variants.{Found, Missing, Refused}
 use Rattle.lookup.specs.Pick.{firstOf, upTo}

@@ -21,8 +21,8 @@ use Rattle.strings.specs.declared.StringAt.the-variants.{At, Refused as String�
 use Rattle.strings.specs.Strings.{same}
 use Rattle.symbol.specs.declared.table.SymbolIndex.{SymbolIndex}
 use Rattle.symbol.specs.Table.{symbolName}
-use Rattle.version.specs.declared.table.Need.{Need}
-use Rattle.version.specs.Table.{matching}
+use Rattle.version_match.specs.declared.Need.{Need}
+use Rattle.version_match.specs.Match.{matching}
 use Rattle.lookup.specs.declared.Answer.{Answer}
 use Rattle.lookup.specs.declared.Answer.the-variants.{Found, Missing, Refused}
 use Rattle.lookup.specs.Pick.{firstOf, upTo}

@@ -7,8 +7,8 @@ use strings::string_equals;
 use symbol::table::SymbolAt;
 use symbol::table::SymbolIndex;
 use symbol::table::symbol_at;
-use version::table::Need;
-use version::table::matches;
+use version_match::Need;
+use version_match::matches;
 ghost use mathlib.Core.Path.{_≡_};
 ghost use Rattle.lookup.specs.Wanted.{Asked, nameOf, isNamed, wantedIn};
 

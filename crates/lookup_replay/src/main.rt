@@ -11,7 +11,7 @@ use libc::STDIN_FILENO;
 use libc::STDOUT_FILENO;
 use lookup::Answer;
 use sysv_header::length::ChainCount;
-use version::table::Need;
+use version_match::Need;
 use version_parse::parse::Parsed;
 use version_parse::parse::parse;
 

@@ -18,7 +18,7 @@ use Rattle.symbol_entry.specs.Entry.{typeOf, visibilityOf, isUndefined, isLocal
 use Rattle.symbol.specs.declared.table.SymbolAt.{SymbolAt}
 use Rattle.symbol.specs.declared.table.SymbolAt.the-variants.{At as Symbol·At, Refused as Symbol·Refused}
 use Rattle.symbol.specs.Table.{symbolAt, symbolSize}
-use Rattle.version.specs.declared.table.Need.{Need}
+use Rattle.version_match.specs.declared.Need.{Need}
 use Rattle.lookup.specs.declared.Answer.{Answer}
 use Rattle.definitions.specs.declared.Which.the-variants.{All, Unversioned}
 use Rattle.marks.specs.declared.EntryMarks.{EntryMarks}

@@ -11,7 +11,7 @@ use lookup::Answer;
 use symbol::table::SymbolAt;
 use symbol::table::symbol_at;
 use symbol_entry::Symbol;
-use version::table::Need;
+use version_match::Need;
 ghost use mathlib.Core.Path.{_≡_};
 ghost use Rattle.marks.specs.Marks.{isHidden, entryMarks, noEntryMarks, marksBy, marksFor, marksOf, anyEntryMark, anyMark};
 

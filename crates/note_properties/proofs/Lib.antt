@@ -1,3 +1,2 @@
--- `GnuName`: a name held against `GNU`. `Steps`: each answer of a step, by its tests.
+-- `GnuName`: a name held against `GNU`.
 mod GnuName
-mod Steps

@@ -1,53 +1,20 @@
-// The GNU properties of a note, one step at a time.
+// Whether a note holds GNU properties, and the reader before the first.
 use endian::kinds::Class;
 use endian::kinds::Order;
-use endian::refusals::BAD_PROPERTY;
 use endian::refusals::LIMIT;
 use endian::refusals::Refusal;
-use endian::refusals::SHORT_PROPERTY_NUMBER;
 use endian::refusals::TOO_LONG;
-use endian::words::u32_at;
 use note::name::trimmed;
+use property_reader::PropertyReader;
 ghost use mathlib.Core.Path.{_≡_};
-ghost use Prim.Native.Nat.{_+_, _<_};
-ghost use Rattle.note.specs.Notes.{aligned};
-ghost use Rattle.note_properties.specs.Properties.{propertyAlign, isGnu, gnuProperties, to, propertyStep, propertyReaderAfter, propertyNumber};
+ghost use Rattle.note_properties.specs.Properties.{isGnu, gnuProperties};
 
 // The type of a note that holds properties, where its name is `GNU`.
 pub const NT_GNU_PROPERTY_TYPE_0: u32 = 5;
 
-// The bytes of a property's type and size.
-pub const PROPERTY_HEADER: usize = 8;
-
-// How the properties are laid out, and where the next one starts.
-pub struct PropertyReader {
-    pub class: Class,
-    pub order: Order,
-    pub at: usize,
-}
-
 pub enum GnuProperties {
     Reader(PropertyReader),
     NotThisKind,
-    Refused(Refusal),
-}
-
-// A property's type, and where its data stands in the lent descriptor: size bytes at start.
-pub struct Property {
-    pub kind: u32,
-    pub start: usize,
-    pub size: usize,
-}
-
-// What a step found, and the reader that stands after it.
-pub enum PropertyStep {
-    Property(Property, PropertyReader),
-    End(PropertyReader),
-    Refused(Refusal, PropertyReader),
-}
-
-pub enum PropertyNumber {
-    Number(u32),
     Refused(Refusal),
 }
 
@@ -97,84 +64,4 @@ pub fn gnu_properties(
     } else {
         GnuProperties::NotThisKind
     }
-}
-
-// The aligned end of a number of bytes below 2^40: by the class, whatever the notes' own alignment.
-fn padded(class: Class, n: usize) -> usize
-    requires { ⌜ n < 1099511627776 ⌝ }
-    ensures { λ r. ⌜ (r ≡ aligned (propertyAlign class) n) × (r < n + 8) ⌝ }
-{
-    match class {
-        Class::Elf32 => (n + 3) / 4 * 4,
-        Class::Elf64 => (n + 7) / 8 * 8,
-    }
-}
-
-impl PropertyReader {
-    // The same reader at another place.
-    fn moved(self, at: usize) -> PropertyReader
-        ensures { λ r. ⌜ r ≡ to self at ⌝ }
-    {
-        let class = self.class;
-        let order = self.order;
-        PropertyReader { class, order, at }
-    }
-
-    // One property further. Refused in this order: bytes that are too long; a property that is not
-    // whole, its padding included. A refused reader stands at their end.
-    pub fn step(self, bytes: &[u8]) -> PropertyStep
-        ensures { λ r. ⌜ r ≡ propertyStep self (now (bytes .entry)) ⌝ }
-    {
-        if LIMIT < bytes.len() {
-            return PropertyStep::Refused(TOO_LONG, self.moved(bytes.len()));
-        }
-        let at = self.at;
-        if bytes.len() <= at {
-            return PropertyStep::End(self);
-        }
-        let left = bytes.len() - at;
-        if left < PROPERTY_HEADER {
-            return PropertyStep::Refused(BAD_PROPERTY, self.moved(bytes.len()));
-        }
-        let class = self.class;
-        let order = self.order;
-        let size = u32_at(order, bytes, at + 4) as usize;
-        let next = padded(class, PROPERTY_HEADER + size);
-        if left < next {
-            return PropertyStep::Refused(BAD_PROPERTY, self.moved(bytes.len()));
-        }
-        let property = Property {
-            kind: u32_at(order, bytes, at),
-            start: at + PROPERTY_HEADER,
-            size,
-        };
-        PropertyStep::Property(property, self.moved(at + next))
-    }
-}
-
-impl PropertyStep {
-    // The reader that stands after the step.
-    pub fn reader(self) -> PropertyReader
-        ensures { λ r. ⌜ r ≡ propertyReaderAfter self ⌝ }
-    {
-        match self {
-            PropertyStep::Property(_, next) => next,
-            PropertyStep::End(next) => next,
-            PropertyStep::Refused(_, next) => next,
-        }
-    }
-}
-
-// A property's data as a number: its first 4 bytes. Refused in this order: data that is too long;
-// fewer than 4 bytes.
-pub fn property_number(order: Order, part: &[u8]) -> PropertyNumber
-    ensures { λ r. ⌜ r ≡ propertyNumber order (now (part .entry)) ⌝ }
-{
-    if LIMIT < part.len() {
-        return PropertyNumber::Refused(TOO_LONG);
-    }
-    if part.len() < 4 {
-        return PropertyNumber::Refused(SHORT_PROPERTY_NUMBER);
-    }
-    PropertyNumber::Number(u32_at(order, part, 0))
 }

@@ -12,11 +12,11 @@ use note::reader::NoteReader;
 use note::reader::NoteStep;
 use note::reader::ReaderFor;
 use note::reader::reader_for;
-use note_properties::Property;
-use note_properties::PropertyNumber;
-use note_properties::PropertyReader;
-use note_properties::PropertyStep;
-use note_properties::property_number;
+use property_reader::Property;
+use property_reader::PropertyNumber;
+use property_reader::PropertyReader;
+use property_reader::PropertyStep;
+use property_reader::property_number;
 ghost use Prim.Native.Nat.{_<_};
 
 const RECORD: usize = 128;

@@ -14,7 +14,7 @@ use Rattle.endian.specs.declared.kinds.Class.the-variants.{Elf32, Elf64}
 use Rattle.endian.specs.declared.kinds.Order.{Order}
 use Rattle.endian.specs.Refusals.{limit, tooLong, noSegment}
 use Rattle.endian.specs.Word.{Field, fieldAt}
-use Rattle.segment.specs.declared.entry.Segment.{Segment}
+use Rattle.segment_entry.specs.declared.Segment.{Segment}
 use Rattle.segment.specs.declared.table.SegmentCount.{SegmentCount}
 use Rattle.segment.specs.declared.table.SegmentCount.the-variants.{Segments, Refused as Count·Refused}
 use Rattle.segment.specs.declared.table.SegmentAt.{SegmentAt}

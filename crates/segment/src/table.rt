@@ -1,5 +1,4 @@
 // A table of program headers: how many it has, and the one of a number.
-use super::entry::Segment;
 use endian::kinds::Class;
 use endian::kinds::Order;
 use endian::refusals::LIMIT;
@@ -8,6 +7,7 @@ use endian::refusals::Refusal;
 use endian::refusals::TOO_LONG;
 use endian::words::u32_at;
 use endian::words::u64_at;
+use segment_entry::Segment;
 ghost use mathlib.Core.Path.{_≡_};
 ghost use Prim.Native.Nat.{_<_};
 ghost use Rattle.endian.specs.declared.kinds.Class.the-variants.{Elf32, Elf64};

@@ -15,7 +15,7 @@ use lib.ListN.{length}
 use borrow.Author.Tests.{le-leb, lt-leb, leb-true}
 use Rattle.strings.proofs.Meaning.{false-true}
 use Rattle.segment_data.specs.Part.{isInFile, isHere}
-use Rattle.segment.specs.declared.entry.Segment.{Segment}
+use Rattle.segment_entry.specs.declared.Segment.{Segment}
 
 leb-same : (a b c d : ℕ) → (a ≤ b → c ≤ d) → (c ≤ d → a ≤ b) → leb a b ≡ leb c d
 leb-same a b c d there back = by (leb a b) refl (leb c d) refl

@@ -10,7 +10,7 @@ use mathlib.Core.List.{List}
 use lib.Dec.{leb, ltb}
 use lib.ListN.{length}
 use Rattle.endian.specs.Refusals.{limit, tooLong, badSegmentData}
-use Rattle.segment.specs.declared.entry.Segment.{Segment}
+use Rattle.segment_entry.specs.declared.Segment.{Segment}
 use Rattle.segment_data.specs.declared.part.SegmentData.{SegmentData}
 use Rattle.segment_data.specs.declared.part.SegmentData.the-variants.{At, Refused}
 use Rattle.segment_data.specs.declared.part.SegmentDataRange.{SegmentDataRange}

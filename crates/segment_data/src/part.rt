@@ -3,7 +3,7 @@ use endian::refusals::BAD_SEGMENT_DATA;
 use endian::refusals::LIMIT;
 use endian::refusals::Refusal;
 use endian::refusals::TOO_LONG;
-use segment::entry::Segment;
+use segment_entry::Segment;
 ghost use mathlib.Core.Path.{_≡_};
 ghost use Rattle.segment_data.specs.Part.{isInFile, isHere, segmentData, segmentDataRange};
 

@@ -15,7 +15,7 @@ use Rattle.endian.specs.declared.kinds.Order.{Order}
 use Rattle.endian.specs.Refusals.{limit, tooLong, badDynamicPlace}
 use Rattle.endian.specs.Word.{Field, fieldAt}
 use Rattle.segment_data.specs.Part.{isInFile}
-use Rattle.segment.specs.declared.entry.Segment.{Segment}
+use Rattle.segment_entry.specs.declared.Segment.{Segment}
 use Rattle.segment_dynamic.specs.declared.dynamic.SegmentDynamic.{SegmentDynamic}
 use Rattle.segment_dynamic.specs.declared.dynamic.SegmentDynamic.the-variants.{At, NotThisKind, Refused}
 use Rattle.segment_dynamic.specs.declared.dynamic.DynamicEntry.{DynamicEntry}

@@ -16,7 +16,7 @@ use Rattle.strings.specs.Strings.{isZero, readable, stringAt}
 use Rattle.strings.specs.declared.StringAt.{StringAt}
 use Rattle.strings.specs.declared.StringAt.the-variants.{At as String·At, Refused as String·Refused}
 use Rattle.segment_parts.specs.Interpreter.{bytesOf, upToZero}
-use Rattle.segment.specs.declared.entry.Segment.{Segment}
+use Rattle.segment_entry.specs.declared.Segment.{Segment}
 use Rattle.segment_parts.specs.declared.interpreter.SegmentInterpreter.{SegmentInterpreter}
 use Rattle.segment_parts.specs.declared.interpreter.SegmentInterpreter.the-variants.{At, Refused}
 

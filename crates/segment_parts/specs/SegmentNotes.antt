@@ -13,7 +13,7 @@ use Rattle.note.specs.Notes.{readerFor}
 use Rattle.note.specs.declared.reader.ReaderFor.{ReaderFor}
 use Rattle.note.specs.declared.reader.ReaderFor.the-variants.{Reader, Refused as Reader·Refused}
 use Rattle.segment_data.specs.Part.{isInFile}
-use Rattle.segment.specs.declared.entry.Segment.{Segment}
+use Rattle.segment_entry.specs.declared.Segment.{Segment}
 use Rattle.segment_parts.specs.declared.notes.SegmentNotes.{SegmentNotes}
 use Rattle.segment_parts.specs.declared.notes.SegmentNotes.the-variants.{At, NotThisKind, Refused}
 

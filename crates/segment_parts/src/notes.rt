@@ -6,9 +6,9 @@ use endian::refusals::Refusal;
 use endian::refusals::TOO_LONG;
 use note::reader::NoteReader;
 use note::reader::ReaderFor;
-use segment::entry::PT_NOTE;
-use segment::entry::Segment;
 use segment_data::part::is_in_file;
+use segment_entry::PT_NOTE;
+use segment_entry::Segment;
 ghost use mathlib.Core.Path.{_≡_};
 ghost use Rattle.segment_parts.specs.SegmentNotes.{segmentNotes};
 

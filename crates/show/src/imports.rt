@@ -19,7 +19,7 @@ use marks::marks_of;
 use name_hash::NameHash;
 use name_hash::gnu_hash;
 use name_hash::sysv_hash;
-use version::table::Need;
+use version_match::Need;
 
 fn found(
     change: Change,

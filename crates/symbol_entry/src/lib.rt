@@ -1,10 +1,6 @@
 // One symbol, and what its fields say.
-use endian::refusals::LIMIT;
-use endian::refusals::Refusal;
-use endian::refusals::TOO_LONG;
-use strings::StringAt;
 ghost use mathlib.Core.Path.{_≡_};
-ghost use Rattle.symbol_entry.specs.Entry.{bindOf, typeOf, visibilityOf, isUndefined, isCommon, isAbsolute, isLocal, isWeak, startsWithDollar, reservedSection, definition};
+ghost use Rattle.symbol_entry.specs.Entry.{bindOf, typeOf, visibilityOf, isUndefined, isCommon, isAbsolute, isLocal, isWeak};
 
 // The gABI's special section numbers.
 pub const SHN_UNDEF: u16 = 0;
@@ -37,12 +33,6 @@ pub struct Symbol {
     pub info: u8,
     pub other: u8,
     pub shndx: u16,
-}
-
-// Whether a symbol is a definition, or why that is not known.
-pub enum Definition {
-    Is(bool),
-    Refused(Refusal),
 }
 
 impl Symbol {
@@ -95,61 +85,5 @@ impl Symbol {
         ensures { λ r. ⌜ r ≡ isWeak self ⌝ }
     {
         self.bind() == STB_WEAK
-    }
-
-    // Whether it defines a function or a data object. A local one without a type does unless its
-    // name, where it can be read, starts with `$`: a mapping symbol. Refused: strings that are too
-    // long.
-    pub fn is_definition(self, strings: &[u8]) -> Definition
-        ensures { λ r. ⌜ r ≡ definition (now (strings .entry)) self ⌝ }
-    {
-        if LIMIT < strings.len() {
-            return Definition::Refused(TOO_LONG);
-        }
-        if is_reserved(self.shndx) {
-            return Definition::Is(false);
-        }
-        let kind = self.kind();
-        if kind == STT_FUNC {
-            return Definition::Is(true);
-        }
-        if kind == STT_OBJECT {
-            return Definition::Is(true);
-        }
-        if kind != STT_NOTYPE {
-            return Definition::Is(false);
-        }
-        if self.bind() != STB_LOCAL {
-            return Definition::Is(true);
-        }
-        Definition::Is(!starts_with_dollar(strings, self.name))
-    }
-}
-
-// Whether a section number stands for no section: undefined or reserved, but for the number that
-// says that the real one stands elsewhere.
-fn is_reserved(shndx: u16) -> bool
-    ensures { λ r. ⌜ r ≡ reservedSection shndx ⌝ }
-{
-    if shndx == SHN_UNDEF {
-        return true;
-    }
-    if shndx < SHN_LORESERVE {
-        return false;
-    }
-    shndx != SHN_XINDEX
-}
-
-fn starts_with_dollar(strings: &[u8], offset: u32) -> bool
-    ensures { λ r. ⌜ r ≡ startsWithDollar (now (strings .entry)) offset ⌝ }
-{
-    match strings::string_at(strings, offset) {
-        StringAt::At { start, len } => {
-            if len == 0 {
-                return false;
-            }
-            endian::words::u8_at(strings, start) == b'$'
-        }
-        StringAt::Refused(_) => false,
     }
 }

@@ -10,7 +10,7 @@ use symbol::table::SymbolIndex;
 use sysv_header::header::Header;
 use sysv_header::header::HeaderAt;
 use sysv_header::header::header_of;
-use version::table::Need;
+use version_match::Need;
 ghost use mathlib.Core.Path.{_≡_};
 ghost use mathlib.Core.List.{[], _∷_};
 ghost use Prim.Native.Nat.{_+_, _*_, _^_, _<_};

@@ -23,7 +23,7 @@ use Rattle.endian.specs.Refusals.{limit, anyLong, tooLong}
 use Rattle.endian.specs.Word.{wordAt}
 use Rattle.strings.proofs.Meaning.{same-refl}
 use Rattle.symbol.specs.Table.{symbolSize}
-use Rattle.version.specs.Table.{matching}
+use Rattle.version_match.specs.Match.{matching}
 use Rattle.name_hash.specs.Hash.{sysvHash}
 use Rattle.lookup.specs.declared.Answer.{Answer}
 use Rattle.lookup.specs.declared.Answer.the-variants.{Found, Missing, Refused}

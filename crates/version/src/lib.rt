@@ -1,5 +1,5 @@
-// GNU symbol versions: the layout of the lent store, the version behind an index, the version of a
-// symbol, and whether it is the one that is needed.
+// GNU symbol versions: the layout of the lent store, the version behind an index, and the version of
+// a symbol.
 pub mod index;
 pub mod store;
 pub mod table;

@@ -8,10 +8,10 @@ use export::kinds::order_of;
 use libc::STDIN_FILENO;
 use libc::STDOUT_FILENO;
 use symbol::table::SymbolIndex;
-use version::table::Need;
 use version::table::VersymAt;
-use version::table::matches;
 use version::table::version_of;
+use version_match::Need;
+use version_match::matches;
 use version_parse::parse::Parsed;
 use version_parse::parse::parse;
 

@@ -1,0 +1,2 @@
+-- `Steps`: each answer of a step, by its tests.
+mod Steps
