@@ -8,8 +8,7 @@ use mathlib.Core.List.{List, [], _∷_}
 use Prim.Native.Nat.{ℕ}
 use lib.Dec.{eqb, ltb}
 use lib.ListN.{length, take}
-use Rattle.endian.specs.First.{first}
-use Rattle.zero_search.specs.Zeros.{isZero}
+use Rattle.endian.specs.First.{first, isZero}
 
 unfoldable pub readable : List ℕ → Bool
 readable rest = ltb (first isZero rest) (length rest)

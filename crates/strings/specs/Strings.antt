@@ -11,8 +11,8 @@ use mathlib.Core.List.{List, [], _∷_}
 use lib.Dec.{ltb}
 use lib.ListN.{length, take, drop}
 use Rattle.endian.specs.First.{first}
+pub use Rattle.endian.specs.First.{isZero}
 use Rattle.endian.specs.Refusals.{limit, tooLong, noString}
-pub use Rattle.zero_search.specs.Zeros.{isZero}
 pub use Rattle.name_match.specs.Reads.{same}
 unfoldable pub use Rattle.name_match.specs.Reads.{readable}
 use Rattle.strings.specs.declared.StringAt.{StringAt}

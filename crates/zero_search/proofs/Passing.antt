@@ -14,7 +14,8 @@ use lib.ListN.{length, getD}
 use lib.Dec.{ltb}
 use borrow.Author.Tests.{ne-eqb, eq-eqb, ltb-true, ltb-false}
 use Rattle.endian.proofs.First.{first-next, first-here, first-end}
-use Rattle.zero_search.specs.Zeros.{isZero, firstZero}
+use Rattle.endian.specs.First.{isZero}
+use Rattle.zero_search.specs.Zeros.{firstZero}
 use Rattle.zero_search.specs.Passed.{Passed}
 
 module _ (s : List ℕ) where

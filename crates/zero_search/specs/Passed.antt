@@ -3,8 +3,7 @@ use Prim.Native.Nat.{ℕ, _≤_, _-_, _+_}
 use mathlib.Core.Path.{_≡_}
 use mathlib.Core.List.{List}
 use lib.ListN.{drop}
-use Rattle.endian.specs.First.{first}
-use Rattle.zero_search.specs.Zeros.{isZero}
+use Rattle.endian.specs.First.{first, isZero}
 
 -- no zero stands from one place on up to another: the first from either is the same
 abbrev pub Passed : List ℕ → ℕ → ℕ → Type 0

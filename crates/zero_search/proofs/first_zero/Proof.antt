@@ -2,7 +2,7 @@
 use native.Mathlib.Omega.{arith}
 use borrow.Author.Needs.{needs}
 use Rattle.endian.proofs.First.{first-end}
-use Rattle.zero_search.specs.Zeros.{isZero}
+use Rattle.endian.specs.First.{isZero}
 use Rattle.zero_search.proofs.Passing.{passed-on, passed-all}
 use Rattle.zero_search.proofs.first_zero.Statement.{statement}
 use Rattle.zero_search.proofs.first_zero.Tie as tie
