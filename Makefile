@@ -12,11 +12,23 @@ CARGO := cargo
 EXPORTS := words strings symbols symbol_facts hashes notes properties versions version_match version_parse gnu_find sysv_find lengths checks segments segment_data segment_dynamic segment_parts
 ARCHIVE := target/staticlib/libfetulombo.a
 OBJECTS := target/archive
+SECOND := target/second
+HALF := 9
 # What those crates are proved over.
 BELOW := $(sort $(shell sed -n 's/^export_[a-z_]*:\([^\#]*\).*/\1/p' crates.txt))
 
 # rt starts so many checks at once and waits for them all: with twice as many as processors none stands idle.
 export RT_JOBS ?= $(shell expr 2 \* $$(nproc))
+
+# While a check runs, the prover keeps some 100 MB in thousands of files. They go to memory, where there is room and
+# programs can be run from there (the gate runs those that it has proved).
+ifeq ($(TMPDIR),)
+MEMORY := $(shell d=/dev/shm; f=$$(mktemp -p $$d 2>/dev/null) && cp /bin/true $$f && chmod 700 $$f && $$f && \
+  [ $$(df --output=avail $$d | tail -n 1) -gt 4000000 ] && echo $$d; rm -f "$$f")
+ifneq ($(MEMORY),)
+export TMPDIR := $(MEMORY)
+endif
+endif
 
 # The archive is for x86-64. On another processor what links it is built by a cross compiler and run
 # under an emulator, where both are at hand.
@@ -56,14 +68,19 @@ run:
 test: calls comparison
 	$(MAKE) --no-print-directory gate
 
-# Each export crate is one object, in which the exported functions alone are global.
+# Each export crate is one object, in which the exported functions alone are global. Two rt in one folder would
+# disturb each other, so half of them are built in a second one.
 archive:
-	rm -rf $(OBJECTS) $(ARCHIVE)
-	mkdir -p $(OBJECTS)
+	rm -rf $(OBJECTS) $(ARCHIVE) $(SECOND)
+	mkdir -p $(OBJECTS) $(SECOND)/target
 	rt check $(BELOW)
-	set -e; for e in $(EXPORTS); do \
-	  rt staticlib export_$$e; \
-	  (cd $(OBJECTS) && $(AR) x ../staticlib/libexport_$$e.a); \
+	cp -r crates.txt crates $(SECOND)
+	cp -r target/rlib target/stamp $(SECOND)/target
+	set -e; build() { for e in "$$@"; do rt staticlib export_$$e || return; done; }; \
+	  (cd $(SECOND) && build $(wordlist 1,$(HALF),$(EXPORTS))) & second=$$!; \
+	  build $(filter-out $(wordlist 1,$(HALF),$(EXPORTS)),$(EXPORTS)); wait $$second
+	cd $(OBJECTS) && for a in $(EXPORTS:%=libexport_%.a); do \
+	  $(AR) x $$(ls ../staticlib/$$a ../second/target/staticlib/$$a 2>/dev/null) || exit; \
 	done
 	$(AR) rcs $(ARCHIVE) $(EXPORTS:%=$(OBJECTS)/export_%.o)
 
