@@ -79,9 +79,8 @@ archive:
 	set -e; build() { for e in "$$@"; do rt staticlib export_$$e || return; done; }; \
 	  (cd $(SECOND) && build $(wordlist 1,$(HALF),$(EXPORTS))) & second=$$!; \
 	  build $(filter-out $(wordlist 1,$(HALF),$(EXPORTS)),$(EXPORTS)); wait $$second
-	cd $(OBJECTS) && for a in $(EXPORTS:%=libexport_%.a); do \
-	  $(AR) x $$(ls ../staticlib/$$a ../second/target/staticlib/$$a 2>/dev/null) || exit; \
-	done
+	cp $(SECOND)/target/staticlib/*.a target/staticlib
+	cd $(OBJECTS) && for e in $(EXPORTS); do $(AR) x ../staticlib/libexport_$$e.a || exit; done
 	$(AR) rcs $(ARCHIVE) $(EXPORTS:%=$(OBJECTS)/export_%.o)
 
 ifneq ($(TOOLS),)
