@@ -14,7 +14,7 @@ use Rattle.note.specs.declared.reader.NoteStep.the-variants.{Note, End, Refused
 use Rattle.note.specs.declared.reader.ReaderFor.{ReaderFor}
 use Rattle.note.specs.declared.reader.ReaderFor.the-variants.{Reader, Refused as Reader·Refused}
 use Rattle.note.specs.Notes.{readerFor, to, noteStep}
-use Rattle.note.specs.Trim.{trimmedLength}
+use Rattle.note_name.specs.Trim.{trimmedLength}
 use Rattle.export.specs.Answers.{number, noNumber}
 use Rattle.export.specs.declared.answers.NumberAnswer.{NumberAnswer}
 use Rattle.export_notes.specs.declared.NoteAnswer.{NoteAnswer}

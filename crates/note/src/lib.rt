@@ -1,4 +1,3 @@
 // Notes of a section or a segment. A reader is a value: each step answers what it found and the
 // reader that stands after it.
-pub mod name;
 pub mod reader;

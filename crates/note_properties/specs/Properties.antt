@@ -10,7 +10,7 @@ use Rattle.endian.specs.declared.kinds.Class.{Class}
 use Rattle.endian.specs.declared.kinds.Order.{Order}
 use Rattle.endian.specs.Refusals.{anyLong, tooLong}
 use Rattle.strings.specs.Strings.{same}
-use Rattle.note.specs.Trim.{trimmedOf}
+use Rattle.note_name.specs.Trim.{trimmedOf}
 use Rattle.property_reader.specs.declared.PropertyReader.{PropertyReader}
 use Rattle.note_properties.specs.declared.GnuProperties.{GnuProperties}
 use Rattle.note_properties.specs.declared.GnuProperties.the-variants.{Reader, NotThisKind, Refused as Properties·Refused}

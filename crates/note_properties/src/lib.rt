@@ -4,7 +4,7 @@ use endian::kinds::Order;
 use endian::refusals::LIMIT;
 use endian::refusals::Refusal;
 use endian::refusals::TOO_LONG;
-use note::name::trimmed;
+use note_name::trimmed;
 use property_reader::PropertyReader;
 ghost use mathlib.Core.Path.{_≡_};
 ghost use Rattle.note_properties.specs.Properties.{isGnu, gnuProperties};

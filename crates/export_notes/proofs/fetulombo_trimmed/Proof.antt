@@ -3,7 +3,7 @@ use mathlib.Core.Path.{_≡_, sym, ap, _∙_}
 use lib.Seq.{length-take-le}
 use borrow.Author.Needs.{needs}
 use borrow.Author.Tests.{lt-ltb, le-ltb}
-use Rattle.note.specs.Trim.{Part, trimmedLength}
+use Rattle.note_name.specs.Trim.{Part, trimmedLength}
 use Rattle.note.proofs.Longest.{trimmed-longest}
 use Rattle.export.specs.Answers.{number}
 use Rattle.export_notes.proofs.fetulombo_trimmed.Statement.{statement}

@@ -11,7 +11,7 @@ use native.Mathlib.Omega.{arith}
 use lib.Dec.{eqb, leb}
 use lib.ListN.{length, getD, List·getD-eq-default}
 use borrow.Author.Tests.{eqb-true, eqb-false, leb-true, leb-false}
-use Rattle.note.specs.Trim.{trimmedLength, Unpadded}
+use Rattle.note_name.specs.Trim.{trimmedLength, Unpadded}
 
 trimmed-le : (s : List ℕ) → trimmedLength s ≤ length s
 unfolding trimmedLength

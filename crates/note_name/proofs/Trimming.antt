@@ -10,7 +10,7 @@ use lib.Dec.{eqb·suc-zero}
 use lib.ListN.{length, getD, take}
 use lib.Seq.{take-suc, length-take-le}
 use borrow.Author.Tests.{ne-eqb}
-use Rattle.note.specs.Trim.{trimmedLength}
+use Rattle.note_name.specs.Trim.{trimmedLength}
 
 trim-zero : (s : List ℕ) → trimmedLength (s ++ (0 ∷ [])) ≡ trimmedLength s
 unfolding trimmedLength

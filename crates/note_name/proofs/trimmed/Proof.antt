@@ -1,14 +1,14 @@
--- `note::name::trimmed` meets its contract. The invariant: what was passed are zeros at the end. The measure is what is left. Assumes nothing.
+-- `note_name::trimmed` meets its contract. The invariant: what was passed are zeros at the end. The measure is what is left. Assumes nothing.
 use native.Mathlib.Omega.{arith}
 use Prim.Native.Nat.{_≤_}
 use mathlib.Core.Path.{_≡_, sym, _∙_}
 use lib.ListN.{length, take}
 use lib.Seq.{take-length, length-take-le}
-use Rattle.note.specs.Trim.{trimmedLength}
-use Rattle.note.proofs.Trimming.{trim-less, trim-all}
+use Rattle.note_name.specs.Trim.{trimmedLength}
+use Rattle.note_name.proofs.Trimming.{trim-less, trim-all}
 use borrow.Author.Needs.{needs}
-use Rattle.note.proofs.name.trimmed.Statement.{statement}
-use Rattle.note.proofs.name.trimmed.Tie as tie
+use Rattle.note_name.proofs.trimmed.Statement.{statement}
+use Rattle.note_name.proofs.trimmed.Tie as tie
 
 abbrev Inv-loop : tie.InvT-loop
 Inv-loop name n₀ n = (n ≤ length name) × (trimmedLength name ≡ trimmedLength (take n name))
