@@ -4,7 +4,7 @@ use lib.Seq.{length-take-le}
 use borrow.Author.Needs.{needs}
 use borrow.Author.Tests.{lt-ltb, le-ltb}
 use Rattle.note_name.specs.Trim.{Part, trimmedLength}
-use Rattle.note.proofs.Longest.{trimmed-longest}
+use Rattle.note_name.proofs.Longest.{trimmed-longest}
 use Rattle.export.specs.Answers.{number}
 use Rattle.export_notes.proofs.fetulombo_trimmed.Statement.{statement}
 use Rattle.export_notes.proofs.fetulombo_trimmed.Tie as tie
