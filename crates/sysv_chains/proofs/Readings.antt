@@ -11,15 +11,14 @@ use mathlib.Core.Option.{Option·getD}
 use native.Mathlib.Omega.{arith}
 use lib.Dec.{ltb}
 use lib.ListN.{length, take, drop, length-take, length-drop}
-use borrow.Author.Tests.{ltb-true, ltb-false, le-ltb}
+use borrow.Author.Tests.{le-ltb}
 use Rattle.endian.specs.declared.kinds.Class.{Class}
 use Rattle.endian.specs.declared.kinds.Order.{Order}
 use Rattle.endian.specs.declared.refusals.Refusal.{Refusal}
-use Rattle.endian.specs.First.{first}
-use Rattle.endian.specs.Refusals.{limit, anyLong, tooLong, noString}
+use Rattle.endian.specs.Refusals.{limit, anyLong, tooLong}
 use Rattle.strings.specs.declared.StringAt.{StringAt}
 use Rattle.strings.specs.declared.StringAt.the-variants.{At, Refused}
-use Rattle.strings.specs.Strings.{isZero, readable, stringAt}
+use Rattle.strings.proofs.Inside.{string-inside}
 use Rattle.symbol.specs.declared.table.SymbolAt.{SymbolAt}
 use Rattle.symbol.specs.declared.table.SymbolAt.the-variants.{At as Symbol·At, Refused as Symbol·Refused}
 use Rattle.symbol.specs.Table.{symbolAt, symbolName, nameIn}
@@ -31,35 +30,11 @@ use Rattle.sysv_chains.specs.Pass.{hashOf}
 
 -- ---- a string that was read
 
-readable-inside : (strings : List ℕ) (offset : ℕ) → readable (drop offset strings) ≡ true
-    → offset + first isZero (drop offset strings) < length strings
-unfolding readable
-readable-inside strings offset e =
-    let found = ltb-true (first isZero (drop offset strings)) (length (drop offset strings)) e in
-    let rest = length-drop offset strings in
-    omega arith
-
 refused-not : {A : Type 0} (r : Refusal) (start len : ℕ) → Refused r ≡ At start len → A
 refused-not r start len e = let z : _≡_ {A = ℕ} 0 1 = cc in absurd (omega arith)
 
 abbrev pub Inside : (strings : List ℕ) → (start len : ℕ) → Type 0
 Inside strings start len = (start + len ≤ length strings) × (length strings ≤ limit)
-
-string-inside : (strings : List ℕ) (offset start len : ℕ) → stringAt strings offset ≡ At start len → Inside strings start len
-string-inside strings offset start len read =
-    by (ltb limit (length strings)) refl (readable (drop offset strings)) refl read
-  where
-    by : (t : Bool) → ltb limit (length strings) ≡ t → (u : Bool) → readable (drop offset strings) ≡ u
-        → cond t (Refused tooLong) (cond u (At offset (first isZero (drop offset strings))) (Refused noString))
-        ≡ At start len
-        → Inside strings start len
-    by true e u f g = refused-not tooLong start len g
-    by false e false f g = refused-not noString start len g
-    by false e true f g =
-        let s : offset ≡ start = cc in
-        let l : first isZero (drop offset strings) ≡ len = cc in
-        let inside = readable-inside strings offset f in
-        (omega arith, ltb-false limit (length strings) e)
 
 -- ---- its hash
 
@@ -95,7 +70,9 @@ module _ (class : Class) (order : Order) (symbols strings : List ℕ) (i : ℕ) 
         by : (t : Bool) (s : SymbolAt) → cond t (Refused tooLong) (nameIn strings s) ≡ At start len → Inside strings start len
         by true s e = refused-not tooLong start len e
         by false (Symbol·Refused r) e = refused-not r start len e
-        by false (Symbol·At symbol) e = string-inside strings (symbol .name) start len e
+        by false (Symbol·At symbol) e =
+            let inside = string-inside strings (symbol .name) start len e in
+            (omega arith, inside .1)
 
     pub hash-read : hashOf (nameOf class order symbols strings) i ≡ sysvHash (take len (drop start strings))
     unfolding hashOf nameOf
