@@ -1,47 +1,21 @@
--- What a record does to the highest index and to the store, and that it does nothing more the second time.
---     higher-once, higher-again                            the highest index
---     storing-over, storing-put, storing-stop              the store: nothing; a version; a refusal
+-- What a record does to the store, and that it does nothing more the second time.
+--     storing-over, storing-put, storing-stop              nothing; a version; a refusal
 --     or-left, storing-kept                                a record that is not passed over
 --     storing-again
 -- Assumes nothing.
-use Prim.Native.Nat.{ℕ, max}
+use Prim.Native.Nat.{ℕ}
 use mathlib.Core.Path.{_≡_, refl, sym, ap, _∙_}
 use mathlib.Core.Bool.{Bool, true, false, _||_}
 use mathlib.Core.List.{List}
-use native.Mathlib.Omega.{arith}
-use Rattle.endian.specs.declared.kinds.Order.{Order}
 use Rattle.endian.specs.declared.refusals.Refusal.{Refusal}
-use Rattle.version_parse.specs.Outcome.{Outcome, folded}
-use Rattle.version_parse.specs.Outcome.Outcome.{fine, stop}
-use Rattle.version_layout.specs.Indices.{needIndex}
-use Rattle.version_parse.specs.Highest.{auxIndices, higherOf}
+use Rattle.version_records.specs.Outcome.{Outcome, folded}
+use Rattle.version_records.specs.Outcome.Outcome.{fine, stop}
 use Rattle.version.specs.Store.{Stored, putEntry}
 use Rattle.version_parse.specs.Entries.{storing}
 use Rattle.version.specs.declared.index.VersionIndex.{VersionIndex}
-use Rattle.version_parse.specs.declared.records.Aux.{Aux}
 use Rattle.version.specs.declared.store.Version.{Version}
-use Rattle.version_parse.proofs.Outcomes.{fine-same, stop-fine}
+use Rattle.version_records.proofs.Outcomes.{fine-same, stop-fine}
 use Rattle.version_parse.proofs.Puts.{put-again}
-
-higherOf-again : (high index : VersionIndex) → higherOf (higherOf high index) index ≡ higherOf high index
-unfolding higherOf
-higherOf-again high index =
-    let e : max (max (high .0) (index .0)) (index .0) ≡ max (high .0) (index .0) = omega arith in
-    ap (λ (n : ℕ). record { 0 = n }) e
-
-module _ (order : Order) (s : List ℕ) (a : Aux) where
-  pub higher-once : (high high′ index : VersionIndex) → high′ ≡ higherOf high index → index ≡ needIndex order s (a .at)
-      → fine high′ ≡ folded higherOf high (auxIndices order s a)
-  unfolding auxIndices
-  higher-once high high′ index h i = ap fine (h ∙ ap (higherOf high) i)
-
-  pub higher-again : (high high′ : VersionIndex) → fine high′ ≡ folded higherOf high (auxIndices order s a)
-      → fine high′ ≡ folded higherOf high′ (auxIndices order s a)
-  unfolding auxIndices
-  higher-again high high′ h =
-      let e = fine-same _ _ h in
-      ap fine (e ∙ sym (higherOf-again high (needIndex order s (a .at))) ∙ ap
-      (λ (x : VersionIndex). higherOf x (needIndex order s (a .at))) (sym e))
 
 module _ (st : List ℕ) (passed : Bool) (index : VersionIndex) (version : Outcome Version) where
   pub storing-over : passed ≡ true → fine st ≡ folded putEntry st (storing passed index version)

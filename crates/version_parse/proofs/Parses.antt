@@ -12,9 +12,9 @@ use borrow.Author.Tests.{lt-ltb, le-ltb}
 use Rattle.endian.specs.declared.kinds.Order.{Order}
 use Rattle.endian.specs.declared.refusals.Refusal.{Refusal}
 use Rattle.endian.specs.Refusals.{limit, tooLong, storeTooSmall}
-use Rattle.version_parse.specs.Outcome.{Outcome, folded}
-use Rattle.version_parse.specs.Outcome.Outcome.{fine, stop}
-use Rattle.version_parse.specs.Highest.{highest}
+use Rattle.version_records.specs.Outcome.{Outcome, folded}
+use Rattle.version_records.specs.Outcome.Outcome.{fine, stop}
+use Rattle.version_highest.specs.Highest.{highest}
 use Rattle.version.specs.Store.{storeNeeds, putEntry}
 use Rattle.version_parse.specs.Entries.{entries}
 use Rattle.version_parse.specs.Parse.{Table, parsedInto, parsedOutcome, answerOf, storeAfter}

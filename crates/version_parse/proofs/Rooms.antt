@@ -8,19 +8,19 @@ use mathlib.Core.Path.{_≡_, sym, ap, _∙_}
 use mathlib.Core.List.{List, [], _∷_, foldl}
 use native.Mathlib.Omega.{arith}
 use Rattle.endian.specs.declared.kinds.Order.{Order}
-use Rattle.version_parse.specs.Outcome.{Outcome, folded}
-use Rattle.version_parse.specs.Outcome.Outcome.{fine, stop}
-use Rattle.version_parse.specs.Walk.{Walk, collect}
-use Rattle.version_parse.specs.Walk.Walk.{end, broken, more}
-use Rattle.version_parse.specs.Records.{verdefs, verneeds, vernauxs}
+use Rattle.version_records.specs.Outcome.{Outcome, folded}
+use Rattle.version_records.specs.Outcome.Outcome.{fine, stop}
+use Rattle.version_records.specs.Walk.{Walk, collect}
+use Rattle.version_records.specs.Walk.Walk.{end, broken, more}
+use Rattle.version_records.specs.Records.{verdefs, verneeds, vernauxs}
 use Rattle.version_layout.specs.Indices.{defIndex, needIndex}
-use Rattle.version_parse.specs.Highest.{needCount, higherOf, defIndices, auxIndices, needIndices, highest}
+use Rattle.version_highest.specs.Highest.{needCount, higherOf, defIndices, auxIndices, needIndices, highest}
 use Rattle.version.specs.Store.{storeNeeds}
 use Rattle.version_parse.specs.Room.{All, DefRoom, AuxRoom, NeedRoom}
 use Rattle.version.specs.declared.index.VersionIndex.{VersionIndex}
-use Rattle.version_parse.specs.declared.records.Record.{Record}
-use Rattle.version_parse.specs.declared.records.Aux.{Aux}
-use Rattle.version_parse.proofs.Outcomes.{fine-same, stop-fine, bind-from, folded-both}
+use Rattle.version_layout.specs.declared.records.Record.{Record}
+use Rattle.version_layout.specs.declared.records.Aux.{Aux}
+use Rattle.version_records.proofs.Outcomes.{fine-same, stop-fine, bind-from, folded-both}
 
 higherOf-keeps : (high index : VersionIndex) → high .0 ≤ higherOf high index .0
 unfolding higherOf

@@ -19,16 +19,16 @@ use Rattle.strings.specs.Strings.{stringAt}
 use Rattle.strings.specs.declared.StringAt.{StringAt}
 use Rattle.version.specs.Index.{isSpecial}
 use Rattle.version_layout.specs.Layouts.{verdef, verdaux, verneed, vernaux}
-use Rattle.version_parse.specs.Outcome.{Outcome, bind, both}
-use Rattle.version_parse.specs.Outcome.Outcome.{fine, stop}
-use Rattle.version_parse.specs.Walk.{collect}
-use Rattle.version_parse.specs.Records.{verdauxShape, auxAt, verdefs, verneeds, vernauxs}
+use Rattle.version_records.specs.Outcome.{Outcome, bind, both}
+use Rattle.version_records.specs.Outcome.Outcome.{fine, stop}
+use Rattle.version_records.specs.Walk.{collect}
+use Rattle.version_records.specs.Records.{verdauxShape, auxAt, verdefs, verneeds, vernauxs}
 use Rattle.version_layout.specs.Indices.{defIndex, needIndex}
-use Rattle.version_parse.specs.Highest.{isBase, needCount}
+use Rattle.version_highest.specs.Highest.{isBase, needCount}
 use Rattle.version.specs.Store.{noFile, Stored}
 use Rattle.version.specs.declared.index.VersionIndex.{VersionIndex}
-use Rattle.version_parse.specs.declared.records.Record.{Record}
-use Rattle.version_parse.specs.declared.records.Aux.{Aux}
+use Rattle.version_layout.specs.declared.records.Record.{Record}
+use Rattle.version_layout.specs.declared.records.Aux.{Aux}
 use Rattle.version.specs.declared.store.Part.{Part}
 use Rattle.version.specs.declared.store.Version.{Version}
 use Rattle.version_parse.specs.declared.fill.PartStep.{PartStep}

@@ -7,14 +7,14 @@ use mathlib.Core.Path.{_≡_}
 use mathlib.Core.List.{List}
 use mathlib.Core.Bool.{false}
 use Rattle.endian.specs.declared.kinds.Order.{Order}
-use Rattle.version_parse.specs.Walk.{Walk}
-use Rattle.version_parse.specs.Walk.Walk.{end, broken, more}
-use Rattle.version_parse.specs.Records.{vernauxs}
+use Rattle.version_records.specs.Walk.{Walk}
+use Rattle.version_records.specs.Walk.Walk.{end, broken, more}
+use Rattle.version_records.specs.Records.{vernauxs}
 use Rattle.version_layout.specs.Indices.{defIndex, needIndex}
-use Rattle.version_parse.specs.Highest.{isBase, needCount}
+use Rattle.version_highest.specs.Highest.{isBase, needCount}
 use Rattle.version.specs.Store.{storeNeeds}
-use Rattle.version_parse.specs.declared.records.Record.{Record}
-use Rattle.version_parse.specs.declared.records.Aux.{Aux}
+use Rattle.version_layout.specs.declared.records.Record.{Record}
+use Rattle.version_layout.specs.declared.records.Aux.{Aux}
 
 abbrev pub All : {A : Type 0} → (A → Type 0) → Walk A → Type 0
 All P end = Unit {0}

@@ -13,7 +13,7 @@ use version::index::VersionIndex;
 use version::store::ENTRY;
 ghost use mathlib.Core.Path.{_≡_};
 ghost use lib.ListN.{length};
-ghost use Rattle.version_parse.specs.Highest.{highRefusal};
+ghost use Rattle.version_highest.specs.Highest.{highRefusal};
 ghost use Rattle.version_parse.specs.Parse.{parsedInto, parsed, parsedOutcome, answerOf, storeAfter};
 
 // The highest index of the version sections, which the store then has room for.

@@ -7,13 +7,13 @@ use Rattle.endian.specs.declared.kinds.Order.{Order}
 use Rattle.endian.specs.Refusals.{badVerdauxName}
 use Rattle.endian.specs.Word.{wordAt, fieldAt}
 use Rattle.version_layout.specs.Layouts.{verdaux}
-use Rattle.version_parse.specs.Outcome.Outcome.{fine, stop}
-use Rattle.version_parse.specs.Records.{verdauxShape, auxAt, auxOutcome, auxRefusal}
+use Rattle.version_records.specs.Outcome.Outcome.{fine, stop}
+use Rattle.version_records.specs.Records.{verdauxShape, auxAt, auxOutcome, auxRefusal}
 use Rattle.version.specs.Store.{noFile}
 use Rattle.version_parse.specs.Entries.{defVersion, partAt, partOutcome}
-use Rattle.version_parse.specs.declared.records.Aux.{Aux}
+use Rattle.version_layout.specs.declared.records.Aux.{Aux}
 use Rattle.version.specs.declared.store.Version.{Version}
-use Rattle.version_parse.proofs.Outcomes.{bind-fine, bind-stop}
+use Rattle.version_records.proofs.Outcomes.{bind-fine, bind-stop}
 use borrow.Author.Needs.{needs}
 use Rattle.version_parse.proofs.fill.def_version.Statement.{statement}
 use Rattle.version_parse.proofs.fill.def_version.Tie as tie

@@ -6,21 +6,21 @@ use mathlib.Core.Path.{_≡_, refl, sym, ap, _∙_}
 use mathlib.Core.List.{List}
 use lib.ListN.{length}
 use Rattle.endian.specs.declared.kinds.Order.{Order}
-use Rattle.version_parse.specs.Outcome.{folded}
-use Rattle.version_parse.specs.Outcome.Outcome.{fine, stop}
-use Rattle.version_parse.specs.Walk.{collect}
-use Rattle.version_parse.specs.Walk.Walk.{more}
+use Rattle.version_records.specs.Outcome.{folded}
+use Rattle.version_records.specs.Outcome.Outcome.{fine, stop}
+use Rattle.version_records.specs.Walk.{collect}
+use Rattle.version_records.specs.Walk.Walk.{more}
 use Rattle.version.specs.Store.{putEntry}
 use Rattle.version_parse.specs.declared.fill.Filled.{Filled}
 use Rattle.version.specs.Index.{isSpecial}
-use Rattle.version_parse.specs.Records.{auxOutcome, auxRefusal, auxAt, vernauxShape, vernauxs}
+use Rattle.version_records.specs.Records.{auxOutcome, auxRefusal, auxAt, vernauxShape, vernauxs}
 use Rattle.version_layout.specs.Indices.{needIndex}
-use Rattle.version_parse.specs.Highest.{needCount}
+use Rattle.version_highest.specs.Highest.{needCount}
 use Rattle.version_parse.specs.Entries.{needVersion, auxEntries, needEntries, filledOutcome}
 use Rattle.version_parse.specs.Room.{All, AuxRoom}
-use Rattle.version_parse.specs.declared.records.Aux.{Aux}
-use Rattle.version_parse.proofs.Walks.{collect-end, collect-broken, collect-turn, collect-leave, counted-repeat, all-first, all-rest}
-use Rattle.version_parse.proofs.Bounds.{aux-place, aux-next, vernauxs-end, vernauxs-more, vernauxs-stop}
+use Rattle.version_layout.specs.declared.records.Aux.{Aux}
+use Rattle.version_records.proofs.Walks.{collect-end, collect-broken, collect-turn, collect-leave, counted-repeat, all-first, all-rest}
+use Rattle.version_records.proofs.Bounds.{aux-place, aux-next, vernauxs-end, vernauxs-more, vernauxs-stop}
 use Rattle.version_parse.proofs.Again.{storing-again}
 use borrow.Author.Needs.{needs}
 use Rattle.version_parse.proofs.fill.fill_auxs.Statement.{statement}

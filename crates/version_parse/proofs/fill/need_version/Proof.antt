@@ -7,11 +7,11 @@ use Rattle.endian.specs.declared.kinds.Order.{Order}
 use Rattle.endian.specs.Refusals.{badVernauxName}
 use Rattle.endian.specs.Word.{wordAt, fieldAt}
 use Rattle.version_layout.specs.Layouts.{vernaux}
-use Rattle.version_parse.specs.Outcome.Outcome.{fine}
+use Rattle.version_records.specs.Outcome.Outcome.{fine}
 use Rattle.version_parse.specs.Entries.{needVersion, partAt, partOutcome}
-use Rattle.version_parse.specs.declared.records.Aux.{Aux}
+use Rattle.version_layout.specs.declared.records.Aux.{Aux}
 use Rattle.version.specs.declared.store.Version.{Version}
-use Rattle.version_parse.proofs.Outcomes.{bind-fine, bind-stop}
+use Rattle.version_records.proofs.Outcomes.{bind-fine, bind-stop}
 use borrow.Author.Needs.{needs}
 use Rattle.version_parse.proofs.fill.need_version.Statement.{statement}
 use Rattle.version_parse.proofs.fill.need_version.Tie as tie

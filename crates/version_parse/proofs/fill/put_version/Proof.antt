@@ -1,7 +1,7 @@
 -- `version_parse::fill::put_version` meets its contract. Assumes nothing.
 use mathlib.Core.Path.{refl, ap, _∙_}
 use mathlib.Core.Bool.{false}
-use Rattle.version_parse.specs.Outcome.Outcome.{fine}
+use Rattle.version_records.specs.Outcome.Outcome.{fine}
 use Rattle.version_parse.specs.Entries.{versionOutcome}
 use Rattle.version_parse.proofs.Again.{storing-put, storing-stop}
 use borrow.Author.Needs.{needs}

@@ -1,13 +1,13 @@
 -- `version_parse::fill::second_pass` meets its contract. One list, then the other. Assumes nothing.
 use mathlib.Core.List.{List}
 use mathlib.Core.Path.{sym, ap, _∙_}
-use Rattle.version_parse.specs.Outcome.{Outcome}
-use Rattle.version_parse.specs.Walk.{collect}
-use Rattle.version_parse.specs.Records.{verdefs, verneeds}
+use Rattle.version_records.specs.Outcome.{Outcome}
+use Rattle.version_records.specs.Walk.{collect}
+use Rattle.version_records.specs.Records.{verdefs, verneeds}
 use Rattle.version.specs.Store.{Stored, putEntry}
 use Rattle.version_parse.specs.Entries.{defEntries, needEntries, filledOutcome}
 use Rattle.version_parse.specs.declared.fill.Filled.{Filled}
-use Rattle.version_parse.proofs.Outcomes.{both-go, both-leave}
+use Rattle.version_records.proofs.Outcomes.{both-go, both-leave}
 use borrow.Author.Needs.{needs}
 use Rattle.version_parse.proofs.fill.second_pass.Statement.{statement}
 use Rattle.version_parse.proofs.fill.second_pass.Tie as tie

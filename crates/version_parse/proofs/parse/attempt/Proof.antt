@@ -1,7 +1,7 @@
 -- `version_parse::parse::attempt` meets its contract. The cases of `parsedInto`, one for each return. Assumes nothing.
 use mathlib.Core.Path.{_≡_, sym, ap, _∙_}
-use Rattle.version_parse.specs.Outcome.Outcome.{fine, stop}
-use Rattle.version_parse.specs.Highest.{highest, highOutcome, highRefusal}
+use Rattle.version_records.specs.Outcome.Outcome.{fine, stop}
+use Rattle.version_highest.specs.Highest.{highest, highOutcome, highRefusal}
 use Rattle.version_parse.specs.Entries.{filledOutcome}
 use Rattle.version_parse.specs.declared.fill.Filled.{Filled}
 use Rattle.version_parse.proofs.Parses.{parsed-long-verdef, parsed-long-verneed, parsed-long-strings, parsed-first, parsed-small, parsed-second, parsed-done}
