@@ -1,15 +1,15 @@
--- `version_parse::fill::part_at` meets its contract. A string that was read lies in the strings, so that its place fits.
+-- `version_entries::entries::part_at` meets its contract. A string that was read lies in the strings, so that its place fits.
 -- Assumes nothing.
 use Prim.Native.Nat.{_+_, _≤_, _<_}
 use mathlib.Core.Path.{sym, ap, _∙_}
 use native.Mathlib.Omega.{arith}
 use lib.ListN.{length}
 use Rattle.endian.specs.Refusals.{limit}
-use Rattle.version_parse.specs.Entries.{partAt, readPart}
-use Rattle.version_parse.proofs.Parts.{string-inside}
+use Rattle.version_entries.specs.Entries.{partAt, readPart}
+use Rattle.version_entries.proofs.Parts.{string-inside}
 use borrow.Author.Needs.{needs}
-use Rattle.version_parse.proofs.fill.part_at.Statement.{statement}
-use Rattle.version_parse.proofs.fill.part_at.Tie as tie
+use Rattle.version_entries.proofs.entries.part_at.Statement.{statement}
+use Rattle.version_entries.proofs.entries.part_at.Tie as tie
 
 inside : (c : tie.After-known-told) →
     let read = c .before .start .given .0 in

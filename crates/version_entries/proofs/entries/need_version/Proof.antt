@@ -1,4 +1,4 @@
--- `version_parse::fill::need_version` meets its contract. Two binds, by what the two calls say. Assumes nothing.
+-- `version_entries::entries::need_version` meets its contract. Two binds, by what the two calls say. Assumes nothing.
 use Prim.Native.Nat.{ℕ}
 use mathlib.Core.Path.{_≡_, sym, ap, _∙_}
 use mathlib.Core.List.{List}
@@ -8,13 +8,14 @@ use Rattle.endian.specs.Refusals.{badVernauxName}
 use Rattle.endian.specs.Word.{wordAt, fieldAt}
 use Rattle.version_layout.specs.Layouts.{vernaux}
 use Rattle.version_records.specs.Outcome.Outcome.{fine}
-use Rattle.version_parse.specs.Entries.{needVersion, partAt, partOutcome}
+use Rattle.version_entries.specs.Entries.{needVersion, partAt, partOutcome}
 use Rattle.version_layout.specs.declared.records.Aux.{Aux}
 use Rattle.version.specs.declared.store.Version.{Version}
 use Rattle.version_records.proofs.Outcomes.{bind-fine, bind-stop}
+use Rattle.version_entries.proofs.Entered.{entered-is, entered-stop}
 use borrow.Author.Needs.{needs}
-use Rattle.version_parse.proofs.fill.need_version.Statement.{statement}
-use Rattle.version_parse.proofs.fill.need_version.Tie as tie
+use Rattle.version_entries.proofs.entries.need_version.Statement.{statement}
+use Rattle.version_entries.proofs.entries.need_version.Tie as tie
 
 -- where the name has been looked for
 module _ (k : tie.After-part-at) where
@@ -67,7 +68,7 @@ returns : tie.Need-returns
 unfolding needVersion
 returns c =
     let k = c .before .before .before in
-    sym (bind-stop _ _ _ (name-read k ∙ ap partOutcome (c .before .refusal .given .1)))
+    entered-stop _ _ _ (bind-stop _ _ _ (name-read k ∙ ap partOutcome (c .before .refusal .given .1)))
 
 returns-2 : tie.Need-returns-2
 unfolding needVersion
@@ -75,7 +76,7 @@ returns-2 c =
     let again = c .before .before .before in
     let named = again .before .before in
     let k = named .before .before in
-    sym (bind-fine _ _ _ (name-read k ∙ ap partOutcome (named .name .given .1))
+    entered-stop _ _ _ (bind-fine _ _ _ (name-read k ∙ ap partOutcome (named .name .given .1))
     ∙ bind-stop _ _ _ (sym (again .part-at2 .ensures) ∙ ap partOutcome (c .before .refusal2 .given .1)))
 
 returns-3 : tie.Need-returns-3
@@ -87,10 +88,9 @@ returns-3 c =
     let k = named .before .before in
     let made : ℕ → Version =
     λ h. record { kind = 2; hash = h; name = named .name .given .0 .0; file = filed .part .given .0 .0 } in
-    ap (λ (h : ℕ). fine (made h))
-    (c .u32-at2 .ensures ∙ ap (wordAt (order k) 4 (s k)) (sym (add-zero (a k .at))))
-    ∙ sym (bind-fine _ _ _ (name-read k ∙ ap partOutcome (named .name .given .1))
-    ∙ bind-fine _ _ _ (sym (again .part-at2 .ensures) ∙ ap partOutcome (filed .part .given .1)))
+    entered-is _ _ _ (bind-fine _ _ _ (name-read k ∙ ap partOutcome (named .name .given .1))
+    ∙ bind-fine _ _ _ (sym (again .part-at2 .ensures) ∙ ap partOutcome (filed .part .given .1))
+    ∙ ap (λ (h : ℕ). fine (made h)) (ap (wordAt (order k) 4 (s k)) (add-zero (a k .at)) ∙ sym (c .u32-at2 .ensures)))
 
 pub need-version-spec : {M : Type 1} → statement M
 need-version-spec =

@@ -1,4 +1,4 @@
--- `version_parse::fill::def_version` meets its contract. Two binds, by what the two calls say. Assumes nothing.
+-- `version_entries::entries::def_version` meets its contract. Two binds, by what the two calls say. Assumes nothing.
 use Prim.Native.Nat.{ℕ}
 use mathlib.Core.Path.{_≡_, sym, ap, _∙_}
 use mathlib.Core.List.{List}
@@ -7,16 +7,19 @@ use Rattle.endian.specs.declared.kinds.Order.{Order}
 use Rattle.endian.specs.Refusals.{badVerdauxName}
 use Rattle.endian.specs.Word.{wordAt, fieldAt}
 use Rattle.version_layout.specs.Layouts.{verdaux}
+use Rattle.version_layout.specs.Steps.{auxRefusal}
 use Rattle.version_records.specs.Outcome.Outcome.{fine, stop}
-use Rattle.version_records.specs.Records.{verdauxShape, auxAt, auxOutcome, auxRefusal}
+use Rattle.version_records.specs.Records.{verdauxShape, auxAt, auxOutcome}
 use Rattle.version.specs.Store.{noFile}
-use Rattle.version_parse.specs.Entries.{defVersion, partAt, partOutcome}
+use Rattle.version_entries.specs.Entries.{defVersion, partAt, partOutcome}
 use Rattle.version_layout.specs.declared.records.Aux.{Aux}
 use Rattle.version.specs.declared.store.Version.{Version}
 use Rattle.version_records.proofs.Outcomes.{bind-fine, bind-stop}
+use Rattle.version_records.proofs.Steps.{aux-says}
+use Rattle.version_entries.proofs.Entered.{entered-is, entered-stop}
 use borrow.Author.Needs.{needs}
-use Rattle.version_parse.proofs.fill.def_version.Statement.{statement}
-use Rattle.version_parse.proofs.fill.def_version.Tie as tie
+use Rattle.version_entries.proofs.entries.def_version.Statement.{statement}
+use Rattle.version_entries.proofs.entries.def_version.Tie as tie
 
 -- where the name has been looked for
 module _ (k : tie.After-part-at) where
@@ -36,7 +39,7 @@ module _ (k : tie.After-part-at) where
   a = read .step .given .0 .0
 
   aux-read : auxAt verdauxShape order s (start .args .def .aux) ≡ fine a
-  aux-read = sym (read .before .before .aux-at .ensures) ∙ ap auxOutcome (read .step .given .1)
+  aux-read = sym (aux-says _ _ (read .before .before .verdaux-at .ensures)) ∙ ap auxOutcome (read .step .given .1)
 
   name-read : partAt badVerdauxName (start .args .strings .now) (fieldAt order s (a .at) (verdaux .name))
       ≡ partOutcome (k .part-at .result)
@@ -45,8 +48,8 @@ module _ (k : tie.After-part-at) where
       (ap (wordAt order 4 s) (add-zero (a .at)) ∙ sym (k .before .u32-at .ensures))
       ∙ sym (k .part-at .ensures)
 
-aux-at-requires : tie.Need-aux-at-requires
-aux-at-requires c κs = search needs
+verdaux-at-requires : tie.Need-verdaux-at-requires
+verdaux-at-requires c κs = search needs
 
 enum-known-step : tie.Need-enum-known-step
 enum-known-step c = search needs
@@ -61,9 +64,12 @@ returns : tie.Need-returns
 unfolding defVersion
 returns c =
     let called = c .before .before .before in
+    let args = called .before .before .before .args in
     let told = c .before .enum-told .given .1 in
-    sym (bind-stop _ _ _
-    (sym (called .aux-at .ensures) ∙ ap auxOutcome told ∙ ap stop (sym (c .aux-refusal .ensures ∙ ap auxRefusal told))))
+    let refused : auxAt verdauxShape (args .order) (args .s .now) (args .def .aux) ≡ stop (c .aux-refusal .result) =
+    sym (aux-says _ _ (called .verdaux-at .ensures)) ∙ ap auxOutcome told ∙ ap stop
+    (sym (c .aux-refusal .ensures ∙ ap auxRefusal told)) in
+    entered-stop _ _ _ (bind-stop _ _ _ refused)
 
 u32-at-requires : tie.Need-u32-at-requires
 u32-at-requires c κs = search needs
@@ -87,7 +93,7 @@ returns-2 : tie.Need-returns-2
 unfolding defVersion
 returns-2 c =
     let k = c .before .before .before in
-    sym (bind-fine _ _ _ (aux-read k) ∙ bind-stop _ _ _ (name-read k ∙ ap partOutcome (c .before .refusal .given .1)))
+    entered-stop _ _ _ (bind-fine _ _ _ (aux-read k) ∙ bind-stop _ _ _ (name-read k ∙ ap partOutcome (c .before .refusal .given .1)))
 
 returns-3 : tie.Need-returns-3
 unfolding defVersion
@@ -95,14 +101,14 @@ returns-3 c =
     let named = c .before .before .before in
     let k = named .before .before in
     let made : ℕ → Version = λ h. record { kind = 1; hash = h; name = named .name .given .0 .0; file = noFile } in
-    ap (λ (h : ℕ). fine (made h)) (c .u32-at2 .ensures)
-    ∙ sym (bind-fine _ _ _ (aux-read k) ∙ bind-fine _ _ _ (name-read k ∙ ap partOutcome (named .name .given .1)))
+    entered-is _ _ _ (bind-fine _ _ _ (aux-read k) ∙ bind-fine _ _ _ (name-read k ∙ ap partOutcome (named .name .given .1))
+    ∙ ap (λ (h : ℕ). fine (made h)) (sym (c .u32-at2 .ensures)))
 
 pub def-version-spec : {M : Type 1} → statement M
 def-version-spec =
     tie.close
     (tie.spec
-    aux-at-requires
+    verdaux-at-requires
     enum-known-step
     enum-told
     aux-refusal-requires

@@ -1,9 +1,9 @@
--- `version_parse::fill::passed_over` meets its contract. Each test is one of `passedOver`. Assumes nothing.
+-- `version_entries::entries::passed_over` meets its contract. Each test is one of `passedOver`. Assumes nothing.
 use mathlib.Core.Path.{sym, ap, _∙_}
 use Rattle.version.specs.Index.{isSpecial}
 use borrow.Author.Needs.{needs}
-use Rattle.version_parse.proofs.fill.passed_over.Statement.{statement}
-use Rattle.version_parse.proofs.fill.passed_over.Tie as tie
+use Rattle.version_entries.proofs.entries.passed_over.Statement.{statement}
+use Rattle.version_entries.proofs.entries.passed_over.Tie as tie
 
 is-base-requires : tie.Need-is-base-requires
 is-base-requires c κs = search needs
