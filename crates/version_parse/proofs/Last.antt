@@ -24,11 +24,13 @@ use Rattle.version_records.specs.Outcome.Outcome.{fine, stop}
 use Rattle.version_records.specs.Walk.{Walk, collect}
 use Rattle.version_records.specs.Walk.Walk.{end, broken, more}
 use Rattle.version.specs.Index.{isSpecial}
-use Rattle.version_records.specs.Records.{verdefs, verneeds, vernauxs}
+use Rattle.version_records.specs.Records.{verdefs, verneeds, vernauxs, needCount}
 use Rattle.version_layout.specs.Indices.{defIndex, needIndex}
-use Rattle.version_highest.specs.Highest.{highest, isBase, needCount}
+use Rattle.version_layout.specs.Steps.{isBase}
+use Rattle.version_highest.specs.Highest.{highest}
 use Rattle.version.specs.Store.{entrySize, storeNeeds, versionNumbers, Stored, putEntry}
-use Rattle.version_parse.specs.Entries.{storing, passedOver, defVersion, needVersion, defEntries, auxEntries, needEntries, entries}
+use Rattle.version_entries.specs.Entries.{storing, passedOver, defVersion, needVersion, defEntries, auxEntries}
+use Rattle.version_parse.specs.Entries.{needEntries, entries}
 use Rattle.version_parse.specs.Room.{All, DefRoom, AuxRoom, NeedRoom}
 use Rattle.version_parse.specs.Parse.{Table, parsedInto, parsed}
 use Rattle.version.specs.Table.{numberAt}

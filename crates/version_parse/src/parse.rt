@@ -1,8 +1,6 @@
 // Version parsing as a whole: the one function that writes to lent memory.
 use super::fill::Filled;
 use super::fill::second_pass;
-use super::highest::High;
-use super::highest::first_pass;
 use super::store::zero;
 use endian::kinds::Order;
 use endian::refusals::LIMIT;
@@ -11,6 +9,8 @@ use endian::refusals::STORE_TOO_SMALL;
 use endian::refusals::TOO_LONG;
 use version::index::VersionIndex;
 use version::store::ENTRY;
+use version_highest::highest::High;
+use version_highest::highest::first_pass;
 ghost use mathlib.Core.Path.{_≡_};
 ghost use lib.ListN.{length};
 ghost use Rattle.version_highest.specs.Highest.{highRefusal};

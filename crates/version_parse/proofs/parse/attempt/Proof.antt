@@ -6,6 +6,7 @@ use Rattle.version_parse.specs.Entries.{filledOutcome}
 use Rattle.version_parse.specs.declared.fill.Filled.{Filled}
 use Rattle.version_parse.proofs.Parses.{parsed-long-verdef, parsed-long-verneed, parsed-long-strings, parsed-first, parsed-small, parsed-second, parsed-done}
 use Rattle.version_parse.proofs.Rooms.{highest-room}
+use Rattle.version_highest.proofs.Highs.{high-says}
 use borrow.Author.Needs.{needs}
 use Rattle.version_parse.proofs.parse.attempt.Statement.{statement}
 use Rattle.version_parse.proofs.parse.attempt.Tie as tie
@@ -14,7 +15,7 @@ use Rattle.version_parse.proofs.parse.attempt.Tie as tie
 read : (k : tie.After-first) →
     let args = k .before .before .before .before .before .before .before .before .before .before .args in
     highest (args .order) (args .verdef .now) (args .verneed .now) ≡ fine (k .first .given .0 .0)
-read k = sym (k .before .before .first-pass .ensures) ∙ ap highOutcome (k .first .given .1)
+read k = sym (high-says _ _ (k .before .before .first-pass .ensures)) ∙ ap highOutcome (k .first .given .1)
 
 returns : tie.Need-returns
 returns c = parsed-long-verdef _ _ _ _ _ (c .if1 .taken)
@@ -43,7 +44,7 @@ returns-4 c =
     let fits = called .before in
     let told = c .before .enum-told .given .1 in
     parsed-first _ _ _ _ _ (fits .before .before .if1 .left) (fits .before .if2 .left) (fits .if3 .left) _
-    (sym (called .first-pass .ensures) ∙ ap highOutcome told ∙ ap stop
+    (sym (high-says _ _ (called .first-pass .ensures)) ∙ ap highOutcome told ∙ ap stop
     (sym (c .high-refusal .ensures ∙ ap highRefusal told)))
 
 cast-if4 : tie.Need-cast-if4
