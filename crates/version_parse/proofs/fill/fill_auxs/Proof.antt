@@ -109,13 +109,13 @@ add-u32-at : tie.Need-add-u32-at Inv-loop μ-loop
 add-u32-at c = search needs
 
 u32-at-requires : tie.Need-u32-at-requires Inv-loop μ-loop
-u32-at-requires c κs = search needs
+u32-at-requires c κs = tt
 
 add-u16-at : tie.Need-add-u16-at Inv-loop μ-loop
 add-u16-at c = search needs
 
 u16-at-requires : tie.Need-u16-at-requires Inv-loop μ-loop
-u16-at-requires c κs = search needs
+u16-at-requires c κs = tt
 
 loop-holds : tie.Need-loop-holds Inv-loop μ-loop
 loop-holds c =
@@ -123,16 +123,16 @@ loop-holds c =
     (refl, rw (c .u16-at .ensures) (start .pre .1), refl)
 
 vernaux-at-requires : tie.Need-vernaux-at-requires Inv-loop μ-loop
-vernaux-at-requires c κs = search needs
+vernaux-at-requires c κs = tt
 
 enum-known-step : tie.Need-enum-known-step Inv-loop μ-loop
-enum-known-step c = search needs
+enum-known-step c = c .match .keys1
 
 enum-told : tie.Need-enum-told Inv-loop μ-loop
-enum-told c = search needs
+enum-told c = c .match .keys2
 
 aux-refusal-requires : tie.Need-aux-refusal-requires Inv-loop μ-loop
-aux-refusal-requires c κs = search needs
+aux-refusal-requires c κs = tt
 
 same-length : tie.Need-same-length Inv-loop μ-loop
 same-length c = search needs
@@ -153,7 +153,7 @@ returns c =
     ∙ whole head
 
 need-entry-requires : tie.Need-need-entry-requires Inv-loop μ-loop
-need-entry-requires c κs = search needs
+need-entry-requires c κs = tt
 
 put-requires : tie.Need-put-requires Inv-loop μ-loop
 put-requires c κs =
@@ -164,10 +164,10 @@ put-requires c κs =
     (needVersion (order k) (s k) (strings k) (file k) (a k)) (c .before .need-entry .ensures) (λ kept. room))
 
 enum-told-2 : tie.Need-enum-told-2 Inv-loop μ-loop
-enum-told-2 c = search needs
+enum-told-2 c = c .match2 .keys1
 
 enum-told-3 : tie.Need-enum-told-3 Inv-loop μ-loop
-enum-told-3 c = search needs
+enum-told-3 c = c .match2 .keys2
 
 same-length-2 : tie.Need-same-length-2 Inv-loop μ-loop
 same-length-2 c =

@@ -11,13 +11,13 @@ use Rattle.version_parse.proofs.fill.put.Statement.{statement}
 use Rattle.version_parse.proofs.fill.put.Tie as tie
 
 enum-told : tie.Need-enum-told
-enum-told c = search needs
+enum-told c = c .match .keys1
 
 enum-known-step : tie.Need-enum-known-step
-enum-known-step c = search needs
+enum-known-step c = c .match .keys2
 
 enum-known-step-2 : tie.Need-enum-known-step-2
-enum-known-step-2 c = search needs
+enum-known-step-2 c = c .match .keys3
 
 put-entry-requires : tie.Need-put-entry-requires
 put-entry-requires c κs =

@@ -32,10 +32,10 @@ fill-defs-requires : tie.Need-fill-defs-requires
 fill-defs-requires c κs = c .before .before .before .before .before .pre .0
 
 enum-told : tie.Need-enum-told
-enum-told c = search needs
+enum-told c = c .match .keys1
 
 enum-told-2 : tie.Need-enum-told-2
-enum-told-2 c = search needs
+enum-told-2 c = c .match .keys2
 
 same-length : tie.Need-same-length
 same-length c = c .before .before .before .before .fill-defs .kept .1 .1 .1 .0

@@ -1,5 +1,10 @@
 -- `version_parse::parse::attempt` meets its contract. The cases of `parsedInto`, one for each return. Assumes nothing.
+use Prim.Native.Nat.{ℕ}
 use mathlib.Core.Path.{_≡_, sym, ap, _∙_}
+use mathlib.Core.List.{List}
+use lib.ListN.{length}
+use Rattle.endian.specs.declared.kinds.Order.{Order}
+use Rattle.version.specs.declared.index.VersionIndex.{VersionIndex}
 use Rattle.version_records.specs.Outcome.Outcome.{fine, stop}
 use Rattle.version_highest.specs.Highest.{highest, highOutcome, highRefusal}
 use Rattle.version_parse.specs.Entries.{filledOutcome}
@@ -12,10 +17,30 @@ use Rattle.version_parse.proofs.parse.attempt.Statement.{statement}
 use Rattle.version_parse.proofs.parse.attempt.Tie as tie
 
 -- where the highest index is known
-read : (k : tie.After-first) →
-    let args = k .before .before .before .before .before .before .before .before .before .before .args in
-    highest (args .order) (args .verdef .now) (args .verneed .now) ≡ fine (k .first .given .0 .0)
-read k = sym (high-says _ _ (k .before .before .first-pass .ensures)) ∙ ap highOutcome (k .first .given .1)
+module _ (k : tie.After-first) where
+  abbrev start : tie.Start
+  start = k .before .before .before .before .before .before .before .before .before .before
+
+  abbrev order : Order
+  order = start .args .order
+
+  abbrev verdef : List ℕ
+  verdef = start .args .verdef .now
+
+  abbrev verneed : List ℕ
+  verneed = start .args .verneed .now
+
+  abbrev strings : List ℕ
+  strings = start .args .strings .now
+
+  abbrev store : List ℕ
+  store = start .args .store .now
+
+  abbrev high : VersionIndex
+  high = k .first .given .0 .0
+
+  read : highest order verdef verneed ≡ fine high
+  read = sym (high-says _ _ (k .before .before .first-pass .ensures)) ∙ ap highOutcome (k .first .given .1)
 
 returns : tie.Need-returns
 returns c = parsed-long-verdef _ _ _ _ _ (c .if1 .taken)
@@ -27,16 +52,16 @@ returns-3 : tie.Need-returns-3
 returns-3 c = parsed-long-strings _ _ _ _ _ (c .before .before .if1 .left) (c .before .if2 .left) (c .if3 .taken)
 
 first-pass-requires : tie.Need-first-pass-requires
-first-pass-requires c κs = search needs
+first-pass-requires c κs = tt
 
 enum-known-first : tie.Need-enum-known-first
-enum-known-first c = search needs
+enum-known-first c = c .match .keys1
 
 enum-told : tie.Need-enum-told
-enum-told c = search needs
+enum-told c = c .match .keys2
 
 high-refusal-requires : tie.Need-high-refusal-requires
-high-refusal-requires c κs = search needs
+high-refusal-requires c κs = tt
 
 returns-4 : tie.Need-returns-4
 returns-4 c =
@@ -60,21 +85,20 @@ returns-5 : tie.Need-returns-5
 returns-5 c =
     let k = c .before .before .before in
     let fits = k .before .before .before in
-    parsed-small _ _ _ _ _ (fits .before .before .if1 .left) (fits .before .if2 .left) (fits .if3 .left) _ (read k)
+    parsed-small (order k) (verdef k) (verneed k) (strings k) (store k) (fits .before .before .if1 .left) (fits .before .if2 .left) (fits .if3 .left) (high k) (read k)
     (c .if4 .taken)
 
 second-pass-requires : tie.Need-second-pass-requires
 second-pass-requires c κs =
     let tested = c .before in
     let k = tested .before .before .before in
-    let args = k .before .before .before .before .before .before .before .before .before .before .args in
-    highest-room (args .order) (args .verdef .now) (args .verneed .now) _ _ (read k) (tested .if4 .left)
+    highest-room (order k) (verdef k) (verneed k) (length (store k)) (high k) (read k) (tested .if4 .left)
 
 enum-told-2 : tie.Need-enum-told-2
-enum-told-2 c = search needs
+enum-told-2 c = c .match2 .keys1
 
 enum-known-refusal : tie.Need-enum-known-refusal
-enum-known-refusal c = search needs
+enum-known-refusal c = c .match2 .keys2
 
 same-length : tie.Need-same-length
 same-length c = c .before .before .before .before .second-pass .kept .1 .1 .1 .1 .0
@@ -87,7 +111,7 @@ returns-6 c =
     let fits = k .before .before .before in
     let told =
     ap (λ (r : Filled). filledOutcome r (called .second-pass .last .1 .1 .1 .1 .0)) (c .enum-told2 .given .1) in
-    parsed-done _ _ _ _ _ (fits .before .before .if1 .left) (fits .before .if2 .left) (fits .if3 .left) _ (read k)
+    parsed-done (order k) (verdef k) (verneed k) (strings k) (store k) (fits .before .before .if1 .left) (fits .before .if2 .left) (fits .if3 .left) (high k) (read k)
     (tested .if4 .left) _
     (sym told ∙ called .second-pass .ensures)
 
@@ -102,7 +126,7 @@ returns-7 c =
     let fits = k .before .before .before in
     let told =
     ap (λ (r : Filled). filledOutcome r (called .second-pass .last .1 .1 .1 .1 .0)) (c .before .refusal .given .1) in
-    parsed-second _ _ _ _ _ (fits .before .before .if1 .left) (fits .before .if2 .left) (fits .if3 .left) _ (read k)
+    parsed-second (order k) (verdef k) (verneed k) (strings k) (store k) (fits .before .before .if1 .left) (fits .before .if2 .left) (fits .if3 .left) (high k) (read k)
     (tested .if4 .left) _
     (sym told ∙ called .second-pass .ensures)
 
