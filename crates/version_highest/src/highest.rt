@@ -20,7 +20,7 @@ ghost use lib.ListN.{length};
 ghost use Rattle.version_records.specs.Outcome.Outcome.{fine};
 ghost use Rattle.version_records.specs.Outcome.{folded};
 ghost use Rattle.version_records.specs.Walk.{collect};
-ghost use Rattle.version_records.specs.Records.{verdefs, verneeds, Within};
+ghost use Rattle.version_records.specs.Records.{verdefs, verneeds};
 ghost use Rattle.version_highest.specs.Highest.{higherOf, highOutcome, highAnswer, defIndices, needIndices, highest};
 
 pub enum High {
@@ -67,7 +67,7 @@ fn highest_def(order: Order, s: &[u8]) -> High
 // The highest index of a need's versions. A record that is its own next repeats until the count
 // ends, and names the same index each time.
 fn highest_aux(order: Order, s: &[u8], need: Record, known: VersionIndex) -> High
-    requires { ⌜ Within (now s) need ⌝ }
+    requires { ⌜ need .at ≤ length (now s) ⌝ }
     ensures { λ r. ⌜ highOutcome r ≡ folded higherOf known (needIndices order (now (s .entry)) need) ⌝ }
 {
     let mut high = known;

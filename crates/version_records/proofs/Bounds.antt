@@ -1,6 +1,5 @@
 -- Where the places of a record that was read lie, and so how its list goes on.
---     record-within, record-next, record-onward    of a record of a list: in the bytes, and the next one past it
---     aux-place, aux-next                          of a record of a chain
+--     record-place, record-onward                  of a record of a list: in the bytes, and the next one past it
 --     listed-end, listed-more, listed-stop         a list, from a place on: at the end; at a record; at a refusal
 --     vernauxs-end, vernauxs-more, vernauxs-stop   a chain, likewise
 -- Assumes nothing.
@@ -11,16 +10,15 @@ use mathlib.Core.Bool.{Bool, true, false, cond}
 use lib.ListN.{length}
 use lib.Dec.{ltb, eqb}
 use native.Mathlib.Omega.{arith}
-use borrow.Author.Tests.{ltb-false, eqb-false}
+use borrow.Author.Tests.{eqb-false}
 use Rattle.endian.specs.declared.kinds.Order.{Order}
 use Rattle.endian.specs.declared.refusals.Refusal.{Refusal}
 use Rattle.endian.specs.Word.{fieldAt}
 use Rattle.version_layout.specs.Layouts.{field}
 use Rattle.version_records.specs.Outcome.Outcome.{fine, stop}
 use Rattle.version_records.specs.Walk.Walk.{end, broken, more}
-use Rattle.version_records.specs.Records.{placeAfter, recordAt, auxAt, listed, vernauxs, vernauxShape, Within}
+use Rattle.version_records.specs.Records.{placeAfter, recordAt, auxAt, listed, vernauxs, vernauxShape}
 use Rattle.version_records.specs.declared.records.ListShape.{ListShape}
-use Rattle.version_records.specs.declared.records.ChainShape.{ChainShape}
 use Rattle.version_layout.specs.declared.records.Record.{Record}
 use Rattle.version_layout.specs.declared.records.Aux.{Aux}
 use Rattle.version_records.proofs.Outcomes.{fine-same, cond-fine}
@@ -34,14 +32,6 @@ place-past n at next h = by (eqb next 0) refl
     by true e = h
     by false e = let some : next ≡ 0 → ⊥ = eqb-false next 0 e in omega arith
 
-place-within : (n at next : ℕ) → at ≤ n → next ≤ n - at → placeAfter n at next ≤ n
-unfolding placeAfter
-place-within n at next h l = by (eqb next 0)
-  where
-    by : (t : Bool) → cond t n (at + next) ≤ n
-    by true = omega arith
-    by false = omega arith
-
 module _ (shape : ListShape) (order : Order) (s : List ℕ) (at : ℕ) where
   abbrev aux : ℕ
   aux = fieldAt order s at (field (shape .aux) 4)
@@ -53,23 +43,20 @@ module _ (shape : ListShape) (order : Order) (s : List ℕ) (at : ℕ) where
   whole = record { at = at; aux = at + aux; next = placeAfter (length s) at next }
 
   module _ (r : Record) (read : recordAt shape order s at ≡ fine r) where
-    record-read : (aux ≤ length s - at) × (next ≤ length s - at) × (r ≡ whole)
+    record-read : r ≡ whole
     unfolding recordAt
     record-read =
         let left = length s - at in
         let long = cond-fine (ltb left (shape .size)) (shape .short) _ r read .1 in
         let chained = cond-fine (ltb left aux) (shape .«bad_aux») _ r long in
         let onward = cond-fine (ltb left next) (shape .«bad_next») (fine whole) r (chained .1) in
-        (ltb-false left aux (chained .0), ltb-false left next (onward .0), sym (fine-same whole r (onward .1)))
+        sym (fine-same whole r (onward .1))
 
-    pub record-within : at ≤ length s → Within s r
-    record-within h = rw (record-read .2) (h, omega (arith, record-read .0))
-
-    pub record-next : at ≤ length s → r .next ≤ length s
-    record-next h = rw (record-read .2) (place-within _ _ _ h (record-read .1))
+    pub record-place : at ≤ length s → r .at ≤ length s
+    record-place h = rw (record-read) h
 
     pub record-onward : at < length s → at < r .next
-    record-onward h = rw (record-read .2) (place-past _ _ _ h)
+    record-onward h = rw (record-read) (place-past _ _ _ h)
 
   pub listed-end : length s ≤ at → listed shape order s at ≡ end
   listed-end h = chain-end (recordAt shape order s) (λ r. r .next) (length s) at h
@@ -84,28 +71,6 @@ module _ (shape : ListShape) (order : Order) (s : List ℕ) (at : ℕ) (inside :
 
   pub listed-stop : (e : Refusal) → recordAt shape order s at ≡ stop e → listed shape order s at ≡ broken e
   listed-stop e read = chain-stop (recordAt shape order s) (λ r. r .next) (length s) onward at e inside read
-
-module _ (shape : ChainShape) (order : Order) (s : List ℕ) (at : ℕ) (a : Aux)
-    (read : auxAt shape order s at ≡ fine a) where
-  abbrev link : ℕ
-  link = fieldAt order s at (field (shape .next) 4)
-
-  abbrev one : Aux
-  one = record { at = at; next = at + link }
-
-  aux-read : (link ≤ length s - at) × (a ≡ one)
-  unfolding auxAt
-  aux-read =
-      let left = length s - at in
-      let long = cond-fine (ltb left (shape .size)) (shape .short) _ a read .1 in
-      let onward = cond-fine (ltb left link) (shape .«bad_next») (fine one) a long in
-      (ltb-false left link (onward .0), sym (fine-same one a (onward .1)))
-
-  pub aux-place : at ≤ length s → a .at ≤ length s
-  aux-place h = rw (aux-read .1) h
-
-  pub aux-next : at ≤ length s → a .next ≤ length s
-  aux-next h = rw (aux-read .1) (omega (arith, aux-read .0))
 
 module _ (order : Order) (s : List ℕ) (left at : ℕ) where
   pub vernauxs-end : left ≤ 0 → vernauxs order s left at ≡ end

@@ -9,9 +9,8 @@
 --     recordStep, auxStep          what is answered
 --     recordOutcome, auxOutcome    what a step says
 --     needCount                    of a need: how many versions it has
---     Within                       a record's places lie in the bytes
 -- Assumes nothing.
-use Prim.Native.Nat.{ℕ, _+_, _-_, _≤_}
+use Prim.Native.Nat.{ℕ, _+_, _-_}
 use mathlib.Core.List.{List}
 use mathlib.Core.Bool.{cond}
 use lib.ListN.{length}
@@ -107,6 +106,3 @@ auxOutcome (AuxStep.Refused e) = stop e
 
 abbrev pub needCount : Order → List ℕ → Record → ℕ
 needCount order s r = fieldAt order s (r .at) (verneed .cnt)
-
-abbrev pub Within : List ℕ → Record → Type 0
-Within s r = (r .at ≤ length s) × (r .aux ≤ length s)

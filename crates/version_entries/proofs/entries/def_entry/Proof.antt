@@ -18,7 +18,7 @@ returns-2 : tie.Need-returns-2
 returns-2 c = entered-over _ _ _ (sym (c .before .passed-over .ensures) ∙ c .if2 .taken)
 
 def-index-requires : tie.Need-def-index-requires
-def-index-requires c κs = search needs
+def-index-requires c κs = tt
 
 def-version-requires : tie.Need-def-version-requires
 def-version-requires c κs = search needs

@@ -49,16 +49,16 @@ module _ (k : tie.After-part-at) where
       ∙ sym (k .part-at .ensures)
 
 verdaux-at-requires : tie.Need-verdaux-at-requires
-verdaux-at-requires c κs = search needs
+verdaux-at-requires c κs = tt
 
 enum-known-step : tie.Need-enum-known-step
-enum-known-step c = search needs
+enum-known-step c = c .match .keys1
 
 enum-told : tie.Need-enum-told
-enum-told c = search needs
+enum-told c = c .match .keys2
 
 aux-refusal-requires : tie.Need-aux-refusal-requires
-aux-refusal-requires c κs = search needs
+aux-refusal-requires c κs = tt
 
 returns : tie.Need-returns
 unfolding defVersion
@@ -72,22 +72,22 @@ returns c =
     entered-stop _ _ _ (bind-stop _ _ _ refused)
 
 u32-at-requires : tie.Need-u32-at-requires
-u32-at-requires c κs = search needs
+u32-at-requires c κs = tt
 
 part-at-requires : tie.Need-part-at-requires
-part-at-requires c κs = search needs
+part-at-requires c κs = tt
 
 enum-known-refusal : tie.Need-enum-known-refusal
-enum-known-refusal c = search needs
+enum-known-refusal c = c .match2 .keys1
 
 enum-known-name : tie.Need-enum-known-name
-enum-known-name c = search needs
+enum-known-name c = c .match2 .keys2
 
 add-u32-at : tie.Need-add-u32-at
 add-u32-at c = search needs
 
 u32-at-requires-2 : tie.Need-u32-at-requires-2
-u32-at-requires-2 c κs = search needs
+u32-at-requires-2 c κs = tt
 
 returns-2 : tie.Need-returns-2
 unfolding defVersion

@@ -41,28 +41,28 @@ add-u32-at : tie.Need-add-u32-at
 add-u32-at c = search needs
 
 u32-at-requires : tie.Need-u32-at-requires
-u32-at-requires c κs = search needs
+u32-at-requires c κs = tt
 
 part-at-requires : tie.Need-part-at-requires
-part-at-requires c κs = search needs
+part-at-requires c κs = tt
 
 enum-known-refusal : tie.Need-enum-known-refusal
-enum-known-refusal c = search needs
+enum-known-refusal c = c .match .keys1
 
 enum-known-name : tie.Need-enum-known-name
-enum-known-name c = search needs
+enum-known-name c = c .match .keys2
 
 part-at-requires-2 : tie.Need-part-at-requires-2
-part-at-requires-2 c κs = search needs
+part-at-requires-2 c κs = tt
 
 enum-known-refusal-2 : tie.Need-enum-known-refusal-2
-enum-known-refusal-2 c = search needs
+enum-known-refusal-2 c = c .match2 .keys1
 
 enum-known-part : tie.Need-enum-known-part
-enum-known-part c = search needs
+enum-known-part c = c .match2 .keys2
 
 u32-at-requires-2 : tie.Need-u32-at-requires-2
-u32-at-requires-2 c κs = search needs
+u32-at-requires-2 c κs = tt
 
 returns : tie.Need-returns
 unfolding needVersion

@@ -21,10 +21,10 @@ inside c =
     string-inside (args .strings .now) (args .offset) _ _ (sym (called .string-at .ensures) ∙ c .before .start .given .1)
 
 string-at-requires : tie.Need-string-at-requires
-string-at-requires c κs = search needs
+string-at-requires c κs = tt
 
 enum-known-start : tie.Need-enum-known-start
-enum-known-start c = search needs
+enum-known-start c = c .match .keys1
 
 cast-t8 : tie.Need-cast-t8
 cast-t8 c = omega (arith, inside c)
@@ -33,7 +33,7 @@ cast-t9 : tie.Need-cast-t9
 cast-t9 c = omega (arith, inside c)
 
 enum-told : tie.Need-enum-told
-enum-told c = search needs
+enum-told c = c .match .keys2
 
 returns : tie.Need-returns
 unfolding partAt

@@ -23,13 +23,13 @@ module _ (called : tie.After-highest-def) where
       collect (needIndices (args .order) (args .verneed .now)) (verneeds (args .order) (args .verneed .now) 0)
 
 highest-def-requires : tie.Need-highest-def-requires
-highest-def-requires c κs = search needs
+highest-def-requires c κs = tt
 
 enum-known-of-defs : tie.Need-enum-known-of-defs
-enum-known-of-defs c = search needs
+enum-known-of-defs c = c .match .keys1
 
 enum-told : tie.Need-enum-told
-enum-told c = search needs
+enum-told c = c .match .keys2
 
 returns : tie.Need-returns
 returns c =
@@ -39,7 +39,7 @@ returns c =
     (sym told ∙ called .highest-def .ensures)))
 
 highest-need-requires : tie.Need-highest-need-requires
-highest-need-requires c κs = search needs
+highest-need-requires c κs = tt
 
 returns-2 : tie.Need-returns-2
 returns-2 c =

@@ -7,17 +7,17 @@ use Rattle.version_highest.proofs.highest.higher_def.Statement.{stateme
 use Rattle.version_highest.proofs.highest.higher_def.Tie as tie
 
 is-base-requires : tie.Need-is-base-requires
-is-base-requires c κs = search needs
+is-base-requires c κs = tt
 
 returns : tie.Need-returns
 unfolding defIndices
 returns c = rw (sym (c .before .is-base .ensures) ∙ c .if1 .taken)
 
 def-index-requires : tie.Need-def-index-requires
-def-index-requires c κs = search needs
+def-index-requires c κs = tt
 
 higher-requires : tie.Need-higher-requires
-higher-requires c κs = search needs
+higher-requires c κs = tt
 
 returns-2 : tie.Need-returns-2
 unfolding defIndices

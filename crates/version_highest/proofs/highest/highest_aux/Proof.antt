@@ -1,10 +1,9 @@
 -- `version_highest::highest::highest_aux` meets its contract. The invariant: going on over the rest, from here, gives the answer
 -- for the whole chain. The measure is the count that is left. A record that is its own next gives nothing higher the
 -- second time. Assumes nothing.
-use Prim.Native.Nat.{ℕ, _-_, _≤_}
+use Prim.Native.Nat.{ℕ, _-_}
 use mathlib.Core.Path.{_≡_, refl, sym, ap, _∙_}
 use mathlib.Core.List.{List}
-use lib.ListN.{length}
 use Rattle.endian.specs.declared.kinds.Order.{Order}
 use Rattle.version_layout.specs.Steps.{auxRefusal}
 use Rattle.version_records.specs.Outcome.{folded}
@@ -16,7 +15,7 @@ use Rattle.version_highest.specs.Highest.{auxIndices, needIndices, highe
 use Rattle.version_layout.specs.declared.records.Aux.{Aux}
 use Rattle.version_records.proofs.Walks.{collect-end, collect-broken, collect-turn, counted-repeat}
 use Rattle.version_records.proofs.Steps.{aux-says}
-use Rattle.version_records.proofs.Bounds.{aux-next, vernauxs-end, vernauxs-more, vernauxs-stop}
+use Rattle.version_records.proofs.Bounds.{vernauxs-end, vernauxs-more, vernauxs-stop}
 use Rattle.version_highest.proofs.Again.{higher-once, higher-again}
 use borrow.Author.Needs.{needs}
 use Rattle.version_highest.proofs.highest.highest_aux.Statement.{statement}
@@ -24,9 +23,8 @@ use Rattle.version_highest.proofs.highest.highest_aux.Tie as tie
 
 abbrev Inv-loop : tie.InvT-loop
 Inv-loop order s high₀ at₀ left₀ high at left =
-    (at ≤ length s)
-    × (folded higherOf high (collect (auxIndices order s) (vernauxs order s left at))
-    ≡ folded higherOf high₀ (collect (auxIndices order s) (vernauxs order s left₀ at₀)))
+    folded higherOf high (collect (auxIndices order s) (vernauxs order s left at))
+    ≡ folded higherOf high₀ (collect (auxIndices order s) (vernauxs order s left₀ at₀))
 
 abbrev μ-loop : tie.MeasureT-loop
 μ-loop order s high₀ at₀ left₀ high at left = left
@@ -65,7 +63,7 @@ whole : (head : tie.At-loop Inv-loop μ-loop) →
     ≡ folded higherOf (args .known) (needIndices (args .order) (args .s .now) (args .need))
 whole head =
     let args = head .before .before .before .before .args in
-    head .loop .inv .1
+    head .loop .inv
     ∙ ap (λ (n : ℕ). folded higherOf (args .known) (collect (auxIndices (args .order) (args .s .now))
     (vernauxs (args .order) (args .s .now) n (args .need .aux))))
     (head .before .u16-at .ensures)
@@ -74,24 +72,22 @@ add-u16-at : tie.Need-add-u16-at Inv-loop μ-loop
 add-u16-at c = search needs
 
 u16-at-requires : tie.Need-u16-at-requires Inv-loop μ-loop
-u16-at-requires c κs = search needs
+u16-at-requires c κs = tt
 
 loop-holds : tie.Need-loop-holds Inv-loop μ-loop
-loop-holds c =
-    let start = c .before .before .before in
-    (start .pre .1, refl)
+loop-holds c = refl
 
 vernaux-at-requires : tie.Need-vernaux-at-requires Inv-loop μ-loop
-vernaux-at-requires c κs = search needs
+vernaux-at-requires c κs = tt
 
 enum-known-step : tie.Need-enum-known-step Inv-loop μ-loop
-enum-known-step c = search needs
+enum-known-step c = c .match .keys1
 
 enum-told : tie.Need-enum-told Inv-loop μ-loop
-enum-told c = search needs
+enum-told c = c .match .keys2
 
 aux-refusal-requires : tie.Need-aux-refusal-requires Inv-loop μ-loop
-aux-refusal-requires c κs = search needs
+aux-refusal-requires c κs = tt
 
 returns : tie.Need-returns Inv-loop μ-loop
 returns c =
@@ -107,10 +103,10 @@ returns c =
     ∙ whole head
 
 need-index-requires : tie.Need-need-index-requires Inv-loop μ-loop
-need-index-requires c κs = search needs
+need-index-requires c κs = tt
 
 higher-requires : tie.Need-higher-requires Inv-loop μ-loop
-higher-requires c κs = search needs
+higher-requires c κs = tt
 
 returns-2 : tie.Need-returns-2 Inv-loop μ-loop
 returns-2 c =
@@ -134,11 +130,9 @@ loop-again c =
     let higher = c .before .before in
     let k = higher .before .before .before in
     let once =
-    higher-once (order k) (s k) (a k) _ _ _ (higher .higher .ensures) (higher .before .need-index .ensures) in (
-      aux-next vernauxShape (order k) (s k) (at k) (a k) (read k) (head k .loop .inv .0),
+    higher-once (order k) (s k) (a k) _ _ _ (higher .higher .ensures) (higher .before .need-index .ensures) in
       sym (collect-turn higherOf (auxIndices (order k) (s k)) (head k .loop .high) _ (a k) _ _ (walk k) once)
-          ∙ head k .loop .inv .1,
-    )
+          ∙ head k .loop .inv
 
 returns-3 : tie.Need-returns-3 Inv-loop μ-loop
 returns-3 c =

@@ -1,7 +1,7 @@
 -- `version_highest::highest::highest_def` meets its contract. The invariant: going on over the rest, from here, gives the answer
 -- for the whole list. The measure is what is left of the bytes, since each record lies past the one before. Assumes
 -- nothing.
-use Prim.Native.Nat.{ℕ, _-_, _≤_, _<_}
+use Prim.Native.Nat.{ℕ, _-_, _<_}
 use mathlib.Core.Path.{_≡_, refl, sym, ap, _∙_}
 use mathlib.Core.List.{List}
 use lib.ListN.{length}
@@ -16,16 +16,15 @@ use Rattle.version_highest.specs.Highest.{defIndices, higherOf}
 use Rattle.version_layout.specs.declared.records.Record.{Record}
 use Rattle.version_records.proofs.Walks.{collect-end, collect-broken, collect-turn}
 use Rattle.version_records.proofs.Steps.{record-says}
-use Rattle.version_records.proofs.Bounds.{record-within, record-next, record-onward, listed-end, listed-more, listed-stop}
+use Rattle.version_records.proofs.Bounds.{record-place, record-onward, listed-end, listed-more, listed-stop}
 use borrow.Author.Needs.{needs}
 use Rattle.version_highest.proofs.highest.highest_def.Statement.{statement}
 use Rattle.version_highest.proofs.highest.highest_def.Tie as tie
 
 abbrev Inv-loop : tie.InvT-loop
 Inv-loop order s high₀ at₀ high at =
-    (at ≤ length s)
-    × (folded higherOf high (collect (defIndices order s) (verdefs order s at))
-    ≡ folded higherOf (record { 0 = 0 }) (collect (defIndices order s) (verdefs order s 0)))
+    folded higherOf high (collect (defIndices order s) (verdefs order s at))
+    ≡ folded higherOf (record { 0 = 0 }) (collect (defIndices order s) (verdefs order s 0))
 
 abbrev μ-loop : tie.MeasureT-loop
 μ-loop order s high₀ at₀ high at = length s - at
@@ -54,19 +53,19 @@ module _ (k : tie.After-step Inv-loop μ-loop) where
   walk = listed-more verdefShape order s at (k .before .before .before .loop-test .taken) d read
 
 loop-holds : tie.Need-loop-holds Inv-loop μ-loop
-loop-holds c = (search needs, refl)
+loop-holds c = refl
 
 verdef-at-requires : tie.Need-verdef-at-requires Inv-loop μ-loop
-verdef-at-requires c κs = search needs
+verdef-at-requires c κs = tt
 
 enum-known-step : tie.Need-enum-known-step Inv-loop μ-loop
-enum-known-step c = search needs
+enum-known-step c = c .match .keys1
 
 enum-told : tie.Need-enum-told Inv-loop μ-loop
-enum-told c = search needs
+enum-told c = c .match .keys2
 
 record-refusal-requires : tie.Need-record-refusal-requires Inv-loop μ-loop
-record-refusal-requires c κs = search needs
+record-refusal-requires c κs = tt
 
 returns : tie.Need-returns Inv-loop μ-loop
 returns c =
@@ -79,12 +78,12 @@ returns c =
     (sym (c .record-refusal .ensures ∙ ap recordRefusal told)) in
     sym (collect-broken higherOf (defIndices (args .order) (args .s .now)) (head .loop .high) _ _
     (listed-stop verdefShape (args .order) (args .s .now) (head .loop .at) (called .before .loop-test .taken) _ refused))
-    ∙ head .loop .inv .1
+    ∙ head .loop .inv
 
 higher-def-requires : tie.Need-higher-def-requires Inv-loop μ-loop
 higher-def-requires c κs =
     let k = c .before in
-    record-within verdefShape (order k) (s k) (at k) (d k) (read k) (head k .loop .inv .0) .0
+    record-place verdefShape (order k) (s k) (at k) (d k) (read k) (search needs)
 
 loop-less : tie.Need-loop-less Inv-loop μ-loop
 loop-less c =
@@ -96,11 +95,9 @@ loop-less c =
 loop-again : tie.Need-loop-again Inv-loop μ-loop
 loop-again c =
     let k = c .before .before in
-    let inv = head k .loop .inv in (
-      record-next verdefShape (order k) (s k) (at k) (d k) (read k) (inv .0),
+    let inv = head k .loop .inv in
       sym (collect-turn higherOf (defIndices (order k) (s k)) (head k .loop .high) _ (d k) _ _ (walk k)
-          (c .higher-def .ensures)) ∙ inv .1,
-    )
+          (c .higher-def .ensures)) ∙ inv
 
 returns-2 : tie.Need-returns-2 Inv-loop μ-loop
 returns-2 c =
@@ -108,7 +105,7 @@ returns-2 c =
     let args = head .before .before .args in
     sym (collect-end higherOf (defIndices (args .order) (args .s .now)) (head .loop .high) _
     (listed-end verdefShape (args .order) (args .s .now) (head .loop .at) (c .loop-test .left)))
-    ∙ head .loop .inv .1
+    ∙ head .loop .inv
 
 pub highest-def-spec : {M : Type 1} → statement M
 highest-def-spec =

@@ -1,7 +1,7 @@
 -- `version_highest::highest::highest_need` meets its contract. The invariant: going on over the rest, from here, gives the
 -- answer for the whole list. The measure is what is left of the bytes, since each record lies past the one before.
 -- Assumes nothing.
-use Prim.Native.Nat.{ℕ, _-_, _≤_, _<_}
+use Prim.Native.Nat.{ℕ, _-_, _<_}
 use mathlib.Core.Path.{_≡_, refl, sym, ap, _∙_}
 use mathlib.Core.List.{List}
 use lib.ListN.{length}
@@ -16,16 +16,15 @@ use Rattle.version_highest.specs.Highest.{needIndices, higherOf, highOut
 use Rattle.version_layout.specs.declared.records.Record.{Record}
 use Rattle.version_records.proofs.Walks.{collect-end, collect-broken, collect-turn, collect-leave}
 use Rattle.version_records.proofs.Steps.{record-says}
-use Rattle.version_records.proofs.Bounds.{record-within, record-next, record-onward, listed-end, listed-more, listed-stop}
+use Rattle.version_records.proofs.Bounds.{record-place, record-onward, listed-end, listed-more, listed-stop}
 use borrow.Author.Needs.{needs}
 use Rattle.version_highest.proofs.highest.highest_need.Statement.{statement}
 use Rattle.version_highest.proofs.highest.highest_need.Tie as tie
 
 abbrev Inv-loop : tie.InvT-loop
 Inv-loop order s high₀ at₀ high at =
-    (at ≤ length s)
-    × (folded higherOf high (collect (needIndices order s) (verneeds order s at))
-    ≡ folded higherOf high₀ (collect (needIndices order s) (verneeds order s 0)))
+    folded higherOf high (collect (needIndices order s) (verneeds order s at))
+    ≡ folded higherOf high₀ (collect (needIndices order s) (verneeds order s 0))
 
 abbrev μ-loop : tie.MeasureT-loop
 μ-loop order s high₀ at₀ high at = length s - at
@@ -54,19 +53,19 @@ module _ (k : tie.After-step Inv-loop μ-loop) where
   walk = listed-more verneedShape order s at (k .before .before .before .loop-test .taken) r read
 
 loop-holds : tie.Need-loop-holds Inv-loop μ-loop
-loop-holds c = (search needs, refl)
+loop-holds c = refl
 
 verneed-at-requires : tie.Need-verneed-at-requires Inv-loop μ-loop
-verneed-at-requires c κs = search needs
+verneed-at-requires c κs = tt
 
 enum-known-step : tie.Need-enum-known-step Inv-loop μ-loop
-enum-known-step c = search needs
+enum-known-step c = c .match .keys1
 
 enum-told : tie.Need-enum-told Inv-loop μ-loop
-enum-told c = search needs
+enum-told c = c .match .keys2
 
 record-refusal-requires : tie.Need-record-refusal-requires Inv-loop μ-loop
-record-refusal-requires c κs = search needs
+record-refusal-requires c κs = tt
 
 returns : tie.Need-returns Inv-loop μ-loop
 returns c =
@@ -79,18 +78,18 @@ returns c =
     (sym (c .record-refusal .ensures ∙ ap recordRefusal told)) in
     sym (collect-broken higherOf (needIndices (args .order) (args .s .now)) (head .loop .high) _ _
     (listed-stop verneedShape (args .order) (args .s .now) (head .loop .at) (called .before .loop-test .taken) _ refused))
-    ∙ head .loop .inv .1
+    ∙ head .loop .inv
 
 highest-aux-requires : tie.Need-highest-aux-requires Inv-loop μ-loop
 highest-aux-requires c κs =
     let k = c .before in
-    record-within verneedShape (order k) (s k) (at k) (r k) (read k) (head k .loop .inv .0)
+    record-place verneedShape (order k) (s k) (at k) (r k) (read k) (search needs)
 
 enum-known-inner : tie.Need-enum-known-inner Inv-loop μ-loop
-enum-known-inner c = search needs
+enum-known-inner c = c .match2 .keys1
 
 enum-told-2 : tie.Need-enum-told-2 Inv-loop μ-loop
-enum-told-2 c = search needs
+enum-told-2 c = c .match2 .keys2
 
 returns-2 : tie.Need-returns-2 Inv-loop μ-loop
 returns-2 c =
@@ -100,7 +99,7 @@ returns-2 c =
     told
     ∙ sym (collect-leave higherOf (needIndices (order k) (s k)) (head k .loop .high) _ (r k) _ _ (walk k)
     (sym told ∙ called .highest-aux .ensures))
-    ∙ head k .loop .inv .1
+    ∙ head k .loop .inv
 
 loop-less : tie.Need-loop-less Inv-loop μ-loop
 loop-less c =
@@ -114,12 +113,10 @@ loop-again c =
     let called = c .before .before .before in
     let k = called .before .before in
     let inv = head k .loop .inv in
-    let told = ap highOutcome (c .before .inner .given .1) in (
-      record-next verneedShape (order k) (s k) (at k) (r k) (read k) (inv .0),
+    let told = ap highOutcome (c .before .inner .given .1) in
       sym (collect-turn higherOf (needIndices (order k) (s k)) (head k .loop .high) _ (r k) _ _ (walk k)
           (sym told ∙ called .highest-aux .ensures))
-          ∙ inv .1,
-    )
+          ∙ inv
 
 returns-3 : tie.Need-returns-3 Inv-loop μ-loop
 returns-3 c =
@@ -127,7 +124,7 @@ returns-3 c =
     let args = head .before .before .args in
     sym (collect-end higherOf (needIndices (args .order) (args .s .now)) (head .loop .high) _
     (listed-end verneedShape (args .order) (args .s .now) (head .loop .at) (c .loop-test .left)))
-    ∙ head .loop .inv .1
+    ∙ head .loop .inv
 
 pub highest-need-spec : {M : Type 1} → statement M
 highest-need-spec =

@@ -19,7 +19,7 @@ use Rattle.version_parse.specs.Room.{All, NeedRoom}
 use Rattle.version_layout.specs.declared.records.Record.{Record}
 use Rattle.version_records.proofs.Walks.{collect-end, collect-broken, collect-turn, collect-leave}
 use Rattle.version_records.proofs.Steps.{record-says}
-use Rattle.version_records.proofs.Bounds.{record-within, record-onward, listed-end, listed-more, listed-stop}
+use Rattle.version_records.proofs.Bounds.{record-place, record-onward, listed-end, listed-more, listed-stop}
 use Rattle.version_parse.proofs.Rooms.{all-first, all-rest}
 use borrow.Author.Needs.{needs}
 use Rattle.version_parse.proofs.fill.fill_needs.Statement.{statement}
@@ -96,7 +96,7 @@ fill-auxs-requires : tie.Need-fill-auxs-requires Inv-loop μ-loop
 fill-auxs-requires c κs =
     let k = c .before .before in
     let inv = head k .loop .inv in (
-      record-within verneedShape (order k) (s k) (at k) (r k) (read k) (search needs) .0,
+      record-place verneedShape (order k) (s k) (at k) (r k) (read k) (search needs),
       rw (inv .0) (all-first (NeedRoom (order k) (s k) _) _ (r k) _ (walk k) (inv .2)),
     )
 
