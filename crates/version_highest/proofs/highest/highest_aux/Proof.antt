@@ -131,8 +131,8 @@ loop-again c =
     let k = higher .before .before .before in
     let once =
     higher-once (order k) (s k) (a k) _ _ _ (higher .higher .ensures) (higher .before .need-index .ensures) in
-      sym (collect-turn higherOf (auxIndices (order k) (s k)) (head k .loop .high) _ (a k) _ _ (walk k) once)
-          ∙ head k .loop .inv
+    sym (collect-turn higherOf (auxIndices (order k) (s k)) (head k .loop .high) _ (a k) _ _ (walk k) once)
+    ∙ head k .loop .inv
 
 returns-3 : tie.Need-returns-3 Inv-loop μ-loop
 returns-3 c =

@@ -96,8 +96,8 @@ loop-again : tie.Need-loop-again Inv-loop μ-loop
 loop-again c =
     let k = c .before .before in
     let inv = head k .loop .inv in
-      sym (collect-turn higherOf (defIndices (order k) (s k)) (head k .loop .high) _ (d k) _ _ (walk k)
-          (c .higher-def .ensures)) ∙ inv
+    sym (collect-turn higherOf (defIndices (order k) (s k)) (head k .loop .high) _ (d k) _ _ (walk k)
+    (c .higher-def .ensures)) ∙ inv
 
 returns-2 : tie.Need-returns-2 Inv-loop μ-loop
 returns-2 c =

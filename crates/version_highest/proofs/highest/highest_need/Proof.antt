@@ -114,9 +114,9 @@ loop-again c =
     let k = called .before .before in
     let inv = head k .loop .inv in
     let told = ap highOutcome (c .before .inner .given .1) in
-      sym (collect-turn higherOf (needIndices (order k) (s k)) (head k .loop .high) _ (r k) _ _ (walk k)
-          (sym told ∙ called .highest-aux .ensures))
-          ∙ inv
+    sym (collect-turn higherOf (needIndices (order k) (s k)) (head k .loop .high) _ (r k) _ _ (walk k)
+    (sym told ∙ called .highest-aux .ensures))
+    ∙ inv
 
 returns-3 : tie.Need-returns-3 Inv-loop μ-loop
 returns-3 c =
