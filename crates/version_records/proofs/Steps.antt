@@ -1,7 +1,7 @@
 -- What an answer says, where it is what an outcome is answered with.
 --     record-says, aux-says    of a record of a list, of a chain
 -- Assumes nothing.
-use mathlib.Core.Path.{_≡_, refl, ap, _∙_}
+use mathlib.Core.Path.{_≡_, ap}
 use Rattle.version_records.specs.Outcome.{Outcome}
 use Rattle.version_records.specs.Outcome.Outcome.{fine, stop}
 use Rattle.version_records.specs.Records.{recordStep, recordOutcome, auxStep, auxOutcome}

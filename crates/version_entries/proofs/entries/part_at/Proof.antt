@@ -7,7 +7,6 @@ use lib.ListN.{length}
 use Rattle.endian.specs.Refusals.{limit}
 use Rattle.version_entries.specs.Entries.{partAt, readPart}
 use Rattle.version_entries.proofs.Parts.{string-inside}
-use borrow.Author.Needs.{needs}
 use Rattle.version_entries.proofs.entries.part_at.Statement.{statement}
 use Rattle.version_entries.proofs.entries.part_at.Tie as tie
 

@@ -8,7 +8,6 @@ use Rattle.version_highest.specs.Highest.{defIndices, needIndices, highe
 use Rattle.version.specs.declared.index.VersionIndex.{VersionIndex}
 use Rattle.version_records.proofs.Outcomes.{both-go, both-leave}
 use Rattle.version_highest.proofs.Highs.{high-answered}
-use borrow.Author.Needs.{needs}
 use Rattle.version_highest.proofs.highest.first_pass.Statement.{statement}
 use Rattle.version_highest.proofs.highest.first_pass.Tie as tie
 

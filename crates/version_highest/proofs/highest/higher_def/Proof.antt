@@ -2,7 +2,6 @@
 use mathlib.Core.Path.{sym, ap, _∙_}
 use Rattle.version_records.specs.Outcome.Outcome.{fine}
 use Rattle.version_highest.specs.Highest.{higherOf, defIndices}
-use borrow.Author.Needs.{needs}
 use Rattle.version_highest.proofs.highest.higher_def.Statement.{statement}
 use Rattle.version_highest.proofs.highest.higher_def.Tie as tie
 

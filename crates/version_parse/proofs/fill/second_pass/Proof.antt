@@ -9,7 +9,6 @@ use Rattle.version_entries.specs.Entries.{defEntries}
 use Rattle.version_parse.specs.Entries.{needEntries, filledOutcome}
 use Rattle.version_parse.specs.declared.fill.Filled.{Filled}
 use Rattle.version_records.proofs.Outcomes.{both-go, both-leave}
-use borrow.Author.Needs.{needs}
 use Rattle.version_parse.proofs.fill.second_pass.Statement.{statement}
 use Rattle.version_parse.proofs.fill.second_pass.Tie as tie
 

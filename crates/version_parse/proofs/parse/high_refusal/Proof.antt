@@ -1,5 +1,4 @@
 -- `version_parse::parse::high_refusal` meets its contract. Assumes nothing.
-use borrow.Author.Needs.{needs}
 use Rattle.version_parse.proofs.parse.high_refusal.Statement.{statement}
 use Rattle.version_parse.proofs.parse.high_refusal.Tie as tie
 
