@@ -19,24 +19,26 @@ use lib.ListN.{length, getD, replicate, length-replicate, getD-replicate, List·
 use borrow.Author.Tests.{ltb-true, ltb-false}
 use Rattle.endian.specs.declared.kinds.Order.{Order}
 use Rattle.endian.specs.Refusals.{anyLong, tooLong, storeTooSmall}
-use Rattle.version_parse.specs.Outcome.{Outcome, bind, both, folded}
-use Rattle.version_parse.specs.Outcome.Outcome.{fine, stop}
-use Rattle.version_parse.specs.Walk.{Walk, collect}
-use Rattle.version_parse.specs.Walk.Walk.{end, broken, more}
+use Rattle.version_records.specs.Outcome.{Outcome, bind, both, folded}
+use Rattle.version_records.specs.Outcome.Outcome.{fine, stop}
+use Rattle.version_records.specs.Walk.{Walk, collect}
+use Rattle.version_records.specs.Walk.Walk.{end, broken, more}
 use Rattle.version.specs.Index.{isSpecial}
-use Rattle.version_parse.specs.Records.{verdefs, verneeds, vernauxs}
+use Rattle.version_records.specs.Records.{verdefs, verneeds, vernauxs, needCount}
 use Rattle.version_layout.specs.Indices.{defIndex, needIndex}
-use Rattle.version_parse.specs.Highest.{highest, isBase, needCount}
+use Rattle.version_layout.specs.Steps.{isBase}
+use Rattle.version_highest.specs.Highest.{highest}
 use Rattle.version.specs.Store.{entrySize, storeNeeds, versionNumbers, Stored, putEntry}
-use Rattle.version_parse.specs.Entries.{storing, passedOver, defVersion, needVersion, defEntries, auxEntries, needEntries, entries}
+use Rattle.version_entries.specs.Entries.{storing, passedOver, defVersion, needVersion, defEntries, auxEntries}
+use Rattle.version_parse.specs.Entries.{needEntries, entries}
 use Rattle.version_parse.specs.Room.{All, DefRoom, AuxRoom, NeedRoom}
 use Rattle.version_parse.specs.Parse.{Table, parsedInto, parsed}
 use Rattle.version.specs.Table.{numberAt}
 use Rattle.version.specs.declared.index.VersionIndex.{VersionIndex}
-use Rattle.version_parse.specs.declared.records.Record.{Record}
-use Rattle.version_parse.specs.declared.records.Aux.{Aux}
+use Rattle.version_layout.specs.declared.records.Record.{Record}
+use Rattle.version_layout.specs.declared.records.Aux.{Aux}
 use Rattle.version.specs.declared.store.Version.{Version}
-use Rattle.version_parse.proofs.Outcomes.{fine-same, stop-fine, cond-fine, bind-from}
+use Rattle.version_records.proofs.Outcomes.{fine-same, stop-fine, cond-fine, bind-from}
 use Rattle.version_parse.proofs.Puts.{sets-below, sets-above, sets-in, length-put}
 use Rattle.version_parse.proofs.Again.{or-left}
 use Rattle.version_parse.proofs.Rooms.{highest-room}

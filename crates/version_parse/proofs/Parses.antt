@@ -1,20 +1,21 @@
 -- What parsing comes to, case by case.
---     parsed-long-verdef, -verneed, -strings    a part is too long
+--     parsed-long                               a part is too long
 --     parsed-first, parsed-small                refused by the first pass; by the store's length
 --     parsed-second, parsed-done                refused by the second pass; done
 --     answered, stored-done, stored-refused     the answer, and the store, from what the two say together
 -- Assumes nothing.
 use Prim.Native.Nat.{ℕ, _<_, _≤_}
 use mathlib.Core.Path.{_≡_, sym, ap, _∙_}
-use mathlib.Core.List.{List}
+use mathlib.Core.Bool.{Bool, true, false}
+use mathlib.Core.List.{List, [], _∷_}
 use lib.ListN.{length, replicate}
 use borrow.Author.Tests.{lt-ltb, le-ltb}
 use Rattle.endian.specs.declared.kinds.Order.{Order}
 use Rattle.endian.specs.declared.refusals.Refusal.{Refusal}
-use Rattle.endian.specs.Refusals.{limit, tooLong, storeTooSmall}
-use Rattle.version_parse.specs.Outcome.{Outcome, folded}
-use Rattle.version_parse.specs.Outcome.Outcome.{fine, stop}
-use Rattle.version_parse.specs.Highest.{highest}
+use Rattle.endian.specs.Refusals.{anyLong, tooLong, storeTooSmall}
+use Rattle.version_records.specs.Outcome.{Outcome, folded}
+use Rattle.version_records.specs.Outcome.Outcome.{fine, stop}
+use Rattle.version_highest.specs.Highest.{highest}
 use Rattle.version.specs.Store.{storeNeeds, putEntry}
 use Rattle.version_parse.specs.Entries.{entries}
 use Rattle.version_parse.specs.Parse.{Table, parsedInto, parsedOutcome, answerOf, storeAfter}
@@ -22,41 +23,34 @@ use Rattle.version.specs.declared.index.VersionIndex.{VersionIndex}
 use Rattle.version_parse.specs.declared.parse.Parsed.{Parsed}
 
 module _ (order : Order) (verdef verneed strings st : List ℕ) where
-  pub parsed-long-verdef : limit < length verdef → stop tooLong ≡ parsedInto order verdef verneed strings st
-  unfolding parsedInto
-  parsed-long-verdef h = rw (lt-ltb _ _ h)
+  abbrev long : Bool
+  long = anyLong (verdef ∷ verneed ∷ strings ∷ [])
 
-  pub parsed-long-verneed : length verdef ≤ limit → limit < length verneed
-      → stop tooLong ≡ parsedInto order verdef verneed strings st
+  pub parsed-long : long ≡ true → stop tooLong ≡ parsedInto order verdef verneed strings st
   unfolding parsedInto
-  parsed-long-verneed d h = rw (le-ltb _ _ d, lt-ltb _ _ h)
+  parsed-long h = rw h
 
-  pub parsed-long-strings : length verdef ≤ limit → length verneed ≤ limit → limit < length strings
-      → stop tooLong ≡ parsedInto order verdef verneed strings st
-  unfolding parsedInto
-  parsed-long-strings d n h = rw (le-ltb _ _ d, le-ltb _ _ n, lt-ltb _ _ h)
-
-  module _ (d : length verdef ≤ limit) (n : length verneed ≤ limit) (s : length strings ≤ limit) where
+  module _ (fits : long ≡ false) where
     pub parsed-first : (e : Refusal) → highest order verdef verneed ≡ stop e
         → stop e ≡ parsedInto order verdef verneed strings st
     unfolding parsedInto
-    parsed-first e h = rw (le-ltb _ _ d, le-ltb _ _ n, le-ltb _ _ s, h)
+    parsed-first e h = rw (fits, h)
 
     module _ (high : VersionIndex) (h : highest order verdef verneed ≡ fine high) where
       pub parsed-small : length st < storeNeeds high → stop storeTooSmall ≡ parsedInto order verdef verneed strings st
       unfolding parsedInto
-      parsed-small l = rw (le-ltb _ _ d, le-ltb _ _ n, le-ltb _ _ s, h, lt-ltb _ _ l)
+      parsed-small l = rw (fits, h, lt-ltb _ _ l)
 
       module _ (l : storeNeeds high ≤ length st) where
         pub parsed-second : (e : Refusal) → stop e ≡ folded putEntry st (entries order verdef verneed strings)
             → stop e ≡ parsedInto order verdef verneed strings st
         unfolding parsedInto
-        parsed-second e f = rw (le-ltb _ _ d, le-ltb _ _ n, le-ltb _ _ s, h, le-ltb _ _ l, ← f)
+        parsed-second e f = rw (fits, h, le-ltb _ _ l, ← f)
 
         pub parsed-done : (filled : List ℕ) → fine filled ≡ folded putEntry st (entries order verdef verneed strings)
             → fine (record { highest = high; store = filled }) ≡ parsedInto order verdef verneed strings st
         unfolding parsedInto
-        parsed-done filled f = rw (le-ltb _ _ d, le-ltb _ _ n, le-ltb _ _ s, h, le-ltb _ _ l, ← f)
+        parsed-done filled f = rw (fits, h, le-ltb _ _ l, ← f)
 
 module _ (n : ℕ) (l : List ℕ) (o : Outcome Table) where
   pub answered : (r : Parsed) → parsedOutcome r l ≡ o → r ≡ answerOf o

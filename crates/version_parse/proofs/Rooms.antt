@@ -1,26 +1,50 @@
 -- A store with room for the highest index has room for every record.
+--     all-first, all-rest what holds of every record of a list
+--     entry-fits          room for an entry that is stored
+--     entry-room          room for what a record stores, where it is not passed over
 --     folded-keeps        the highest index only grows
 --     all-room            a list: room for each of its records, from room for its highest index
 --     highest-room        both lists
 -- Assumes nothing.
 use Prim.Native.Nat.{ℕ, _≤_}
-use mathlib.Core.Path.{_≡_, sym, ap, _∙_}
+use mathlib.Core.Path.{_≡_, refl, sym, ap, _∙_}
+use mathlib.Core.Bool.{Bool, true, false}
 use mathlib.Core.List.{List, [], _∷_, foldl}
 use native.Mathlib.Omega.{arith}
 use Rattle.endian.specs.declared.kinds.Order.{Order}
-use Rattle.version_parse.specs.Outcome.{Outcome, folded}
-use Rattle.version_parse.specs.Outcome.Outcome.{fine, stop}
-use Rattle.version_parse.specs.Walk.{Walk, collect}
-use Rattle.version_parse.specs.Walk.Walk.{end, broken, more}
-use Rattle.version_parse.specs.Records.{verdefs, verneeds, vernauxs}
+use Rattle.version_records.specs.Outcome.{Outcome, folded}
+use Rattle.version_records.specs.Outcome.Outcome.{fine, stop}
+use Rattle.version_records.specs.Walk.{Walk, collect}
+use Rattle.version_records.specs.Walk.Walk.{end, broken, more}
+use Rattle.version_records.specs.Records.{verdefs, verneeds, vernauxs, needCount}
 use Rattle.version_layout.specs.Indices.{defIndex, needIndex}
-use Rattle.version_parse.specs.Highest.{needCount, higherOf, defIndices, auxIndices, needIndices, highest}
+use Rattle.version_highest.specs.Highest.{higherOf, defIndices, auxIndices, needIndices, highest}
 use Rattle.version.specs.Store.{storeNeeds}
-use Rattle.version_parse.specs.Room.{All, DefRoom, AuxRoom, NeedRoom}
+use Rattle.version_parse.specs.Room.{All, EntryRoom, DefRoom, AuxRoom, NeedRoom}
 use Rattle.version.specs.declared.index.VersionIndex.{VersionIndex}
-use Rattle.version_parse.specs.declared.records.Record.{Record}
-use Rattle.version_parse.specs.declared.records.Aux.{Aux}
-use Rattle.version_parse.proofs.Outcomes.{fine-same, stop-fine, bind-from, folded-both}
+use Rattle.version_layout.specs.declared.records.Record.{Record}
+use Rattle.version_layout.specs.declared.records.Aux.{Aux}
+use Rattle.version_entries.specs.Entries.{storing, entryStep}
+use Rattle.version_entries.specs.declared.entries.EntryStep.{EntryStep}
+use Rattle.version.specs.declared.store.Version.{Version}
+use Rattle.version_records.proofs.Outcomes.{fine-same, stop-fine, bind-from, folded-both}
+
+module _ {A : Type 0} (P : A → Type 0) (w : Walk A) (a : A) (rest : Walk A) (h : w ≡ more a rest) where
+  pub all-first : All P w → P a
+  all-first all = (rw h at all) .0
+
+  pub all-rest : All P w → All P rest
+  all-rest all = (rw h at all) .1
+
+pub entry-fits : (n : ℕ) (r : EntryStep) (index : VersionIndex) (version : Version) → r ≡ EntryStep.Is index version
+    → EntryRoom n r → storeNeeds index ≤ n
+entry-fits n r index version h room = rw h at room
+
+pub entry-room : (n : ℕ) (r : EntryStep) (passed : Bool) (index : VersionIndex) (version : Outcome Version)
+    → r ≡ entryStep (storing passed index version) → (passed ≡ false → storeNeeds index ≤ n) → EntryRoom n r
+entry-room n r true index version h room = rw h tt
+entry-room n r false index (fine v) h room = rw h (room refl)
+entry-room n r false index (stop e) h room = rw h tt
 
 higherOf-keeps : (high index : VersionIndex) → high .0 ≤ higherOf high index .0
 unfolding higherOf

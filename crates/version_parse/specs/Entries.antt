@@ -1,78 +1,21 @@
--- The second pass (01, module 5): the versions that the records store, with their indices.
---     partAt                            the string at an offset, with the refusal where there is none
---     defVersion, passedOver            of a definition: its version (11, 12, 18), and whether it stores nothing
---     needVersion                       of a needed version (20, then 19)
---     storing                           what a record stores: nothing if it is passed over
---     defEntries, auxEntries, needEntries   what a definition, a needed version, a need store
---     entries                           what the definitions store, then what the needs store
---     partOutcome, versionOutcome, filledOutcome   what an answer says, with the store that is left
+-- The second pass (01, module 5): the versions that the lists store, with their indices.
+--     needEntries      what a need stores
+--     entries          what the definitions store, then what the needs store
+--     filledOutcome    what an answer says, with the store that is left
 -- Assumes nothing.
 use Prim.Native.Nat.{ℕ}
-use mathlib.Core.List.{List, [], _∷_}
-use mathlib.Core.Bool.{Bool, true, false, _||_}
-use lib.Dec.{eqb}
+use mathlib.Core.List.{List}
 use Rattle.endian.specs.declared.kinds.Order.{Order}
-use Rattle.endian.specs.declared.refusals.Refusal.{Refusal}
-use Rattle.endian.specs.Refusals.{badVerdauxName, badVerneedFile, badVernauxName}
 use Rattle.endian.specs.Word.{fieldAt}
-use Rattle.strings.specs.Strings.{stringAt}
-use Rattle.strings.specs.declared.StringAt.{StringAt}
-use Rattle.version.specs.Index.{isSpecial}
-use Rattle.version_layout.specs.Layouts.{verdef, verdaux, verneed, vernaux}
-use Rattle.version_parse.specs.Outcome.{Outcome, bind, both}
-use Rattle.version_parse.specs.Outcome.Outcome.{fine, stop}
-use Rattle.version_parse.specs.Walk.{collect}
-use Rattle.version_parse.specs.Records.{verdauxShape, auxAt, verdefs, verneeds, vernauxs}
-use Rattle.version_layout.specs.Indices.{defIndex, needIndex}
-use Rattle.version_parse.specs.Highest.{isBase, needCount}
-use Rattle.version.specs.Store.{noFile, Stored}
-use Rattle.version.specs.declared.index.VersionIndex.{VersionIndex}
-use Rattle.version_parse.specs.declared.records.Record.{Record}
-use Rattle.version_parse.specs.declared.records.Aux.{Aux}
-use Rattle.version.specs.declared.store.Part.{Part}
-use Rattle.version.specs.declared.store.Version.{Version}
-use Rattle.version_parse.specs.declared.fill.PartStep.{PartStep}
-use Rattle.version_parse.specs.declared.fill.VersionStep.{VersionStep}
+use Rattle.version_layout.specs.Layouts.{verneed}
+use Rattle.version_layout.specs.declared.records.Record.{Record}
+use Rattle.version_records.specs.Outcome.{Outcome, both}
+use Rattle.version_records.specs.Outcome.Outcome.{fine, stop}
+use Rattle.version_records.specs.Walk.{collect}
+use Rattle.version_records.specs.Records.{verdefs, verneeds, vernauxs, needCount}
+use Rattle.version_entries.specs.Entries.{defEntries, auxEntries}
+use Rattle.version.specs.Store.{Stored}
 use Rattle.version_parse.specs.declared.fill.Filled.{Filled}
-
--- of what was read at an offset
-abbrev pub readPart : Refusal → StringAt → Outcome Part
-readPart e (StringAt.At start len) = fine (record { start = start; len = len })
-readPart e (StringAt.Refused r) = stop e
-
-unfoldable pub partAt : Refusal → List ℕ → ℕ → Outcome Part
-partAt e strings offset = readPart e (stringAt strings offset)
-
--- its first aux, and that one's name
-unfoldable pub defVersion : Order → (s strings : List ℕ) → Record → Outcome Version
-defVersion order s strings d =
-    bind (auxAt verdauxShape order s (d .aux)) (λ a.
-    bind (partAt badVerdauxName strings (fieldAt order s (a .at) (verdaux .name))) (λ name.
-    fine (record { kind = 1; hash = fieldAt order s (d .at) (verdef .hash); name = name; file = noFile })))
-
--- flagged base, or a special index, or no aux
-abbrev pub passedOver : Order → List ℕ → Record → Bool
-passedOver order s d =
-    isBase order s d || (isSpecial (defIndex order s (d .at)) || eqb (fieldAt order s (d .at) (verdef .cnt)) 0)
-
--- nothing where the record is passed over, else its version
-abbrev pub storing : (passed : Bool) → VersionIndex → Outcome Version → Outcome (List Stored)
-storing true index version = fine []
-storing false index version = bind version (λ v. fine (record { index = index; version = v } ∷ []))
-
-abbrev pub defEntries : Order → (s strings : List ℕ) → Record → Outcome (List Stored)
-defEntries order s strings d = storing (passedOver order s d) (defIndex order s (d .at)) (defVersion order s strings d)
-
-unfoldable pub needVersion : Order → (s strings : List ℕ) → (file : ℕ) → Aux → Outcome Version
-needVersion order s strings file a =
-    bind (partAt badVernauxName strings (fieldAt order s (a .at) (vernaux .name))) (λ name.
-    bind (partAt badVerneedFile strings file) (λ part.
-    fine (record { kind = 2; hash = fieldAt order s (a .at) (vernaux .hash); name = name; file = part })))
-
--- a special index stores nothing
-abbrev pub auxEntries : Order → (s strings : List ℕ) → (file : ℕ) → Aux → Outcome (List Stored)
-auxEntries order s strings file a =
-    storing (isSpecial (needIndex order s (a .at))) (needIndex order s (a .at)) (needVersion order s strings file a)
 
 abbrev pub needEntries : Order → (s strings : List ℕ) → Record → Outcome (List Stored)
 needEntries order s strings r =
@@ -83,14 +26,6 @@ abbrev pub entries : Order → (verdef verneed strings : List ℕ) → Outcome (
 entries order verdef verneed strings =
     both (collect (defEntries order verdef strings) (verdefs order verdef 0))
     (collect (needEntries order verneed strings) (verneeds order verneed 0))
-
-abbrev pub partOutcome : PartStep → Outcome Part
-partOutcome (PartStep.Is part) = fine part
-partOutcome (PartStep.Refused e) = stop e
-
-abbrev pub versionOutcome : VersionStep → Outcome Version
-versionOutcome (VersionStep.Is v) = fine v
-versionOutcome (VersionStep.Refused e) = stop e
 
 abbrev pub filledOutcome : Filled → List ℕ → Outcome (List ℕ)
 filledOutcome Filled.Done store = fine store

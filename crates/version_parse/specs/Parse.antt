@@ -12,9 +12,9 @@ use lib.ListN.{length, replicate}
 use lib.Dec.{ltb}
 use Rattle.endian.specs.declared.kinds.Order.{Order}
 use Rattle.endian.specs.Refusals.{anyLong, tooLong, storeTooSmall}
-use Rattle.version_parse.specs.Outcome.{Outcome, bind, folded}
-use Rattle.version_parse.specs.Outcome.Outcome.{fine, stop}
-use Rattle.version_parse.specs.Highest.{highest}
+use Rattle.version_records.specs.Outcome.{Outcome, bind, folded}
+use Rattle.version_records.specs.Outcome.Outcome.{fine, stop}
+use Rattle.version_highest.specs.Highest.{highest}
 use Rattle.version.specs.Store.{storeNeeds, putEntry}
 use Rattle.version_parse.specs.Entries.{entries}
 use Rattle.version.specs.declared.index.VersionIndex.{VersionIndex}

@@ -1,5 +1,6 @@
 -- A store of n numbers has room for what the records of a list store.
 --     All                          what holds of every record of a walk
+--     EntryRoom                    room for what a record stores
 --     DefRoom, AuxRoom, NeedRoom   room for a definition, a needed version, a need
 -- Assumes nothing.
 use Prim.Native.Nat.{ℕ, _≤_}
@@ -7,19 +8,25 @@ use mathlib.Core.Path.{_≡_}
 use mathlib.Core.List.{List}
 use mathlib.Core.Bool.{false}
 use Rattle.endian.specs.declared.kinds.Order.{Order}
-use Rattle.version_parse.specs.Walk.{Walk}
-use Rattle.version_parse.specs.Walk.Walk.{end, broken, more}
-use Rattle.version_parse.specs.Records.{vernauxs}
+use Rattle.version_records.specs.Walk.{Walk}
+use Rattle.version_records.specs.Walk.Walk.{end, broken, more}
+use Rattle.version_records.specs.Records.{vernauxs, needCount}
 use Rattle.version_layout.specs.Indices.{defIndex, needIndex}
-use Rattle.version_parse.specs.Highest.{isBase, needCount}
+use Rattle.version_layout.specs.Steps.{isBase}
 use Rattle.version.specs.Store.{storeNeeds}
-use Rattle.version_parse.specs.declared.records.Record.{Record}
-use Rattle.version_parse.specs.declared.records.Aux.{Aux}
+use Rattle.version_layout.specs.declared.records.Record.{Record}
+use Rattle.version_entries.specs.declared.entries.EntryStep.{EntryStep}
+use Rattle.version_layout.specs.declared.records.Aux.{Aux}
 
 abbrev pub All : {A : Type 0} → (A → Type 0) → Walk A → Type 0
 All P end = Unit {0}
 All P (broken e) = Unit {0}
 All P (more a w) = P a × All P w
+
+abbrev pub EntryRoom : (n : ℕ) → EntryStep → Type 0
+EntryRoom n EntryStep.Nothing = Unit {0}
+EntryRoom n (EntryStep.Is index version) = storeNeeds index ≤ n
+EntryRoom n (EntryStep.Refused e) = Unit {0}
 
 abbrev pub DefRoom : Order → List ℕ → (n : ℕ) → Record → Type 0
 DefRoom order s n d = isBase order s d ≡ false → storeNeeds (defIndex order s (d .at)) ≤ n

@@ -1,8 +1,6 @@
 // Version parsing as a whole: the one function that writes to lent memory.
 use super::fill::Filled;
 use super::fill::second_pass;
-use super::highest::High;
-use super::highest::first_pass;
 use super::store::zero;
 use endian::kinds::Order;
 use endian::refusals::LIMIT;
@@ -11,9 +9,13 @@ use endian::refusals::STORE_TOO_SMALL;
 use endian::refusals::TOO_LONG;
 use version::index::VersionIndex;
 use version::store::ENTRY;
+use version_highest::highest::High;
+use version_highest::highest::first_pass;
+ghost use mathlib.Core.List.{[], _∷_};
 ghost use mathlib.Core.Path.{_≡_};
 ghost use lib.ListN.{length};
-ghost use Rattle.version_parse.specs.Highest.{highRefusal};
+ghost use Rattle.endian.specs.Refusals.{anyLong};
+ghost use Rattle.version_highest.specs.Highest.{highRefusal};
 ghost use Rattle.version_parse.specs.Parse.{parsedInto, parsed, parsedOutcome, answerOf, storeAfter};
 
 // The highest index of the version sections, which the store then has room for.
@@ -32,18 +34,28 @@ fn high_refusal(high: High) -> Refusal
     }
 }
 
+// Whether a lent part is too long.
+fn any_long(verdef: &[u8], verneed: &[u8], strings: &[u8]) -> bool
+    ensures { λ r. ⌜ r ≡ anyLong (now (verdef .entry) ∷ now (verneed .entry) ∷ now (strings .entry) ∷ []) ⌝ }
+{
+    if LIMIT < verdef.len() {
+        return true;
+    }
+    if LIMIT < verneed.len() {
+        return true;
+    }
+    if LIMIT < strings.len() {
+        return true;
+    }
+    false
+}
+
 // Both passes, over a store of zeros. A refusal leaves it half filled.
 fn attempt(order: Order, verdef: &[u8], verneed: &[u8], strings: &[u8], store: &mut [u32]) -> Parsed
     ensures { λ r. ⌜ parsedOutcome r (now (store .exit))
         ≡ parsedInto order (now (verdef .entry)) (now (verneed .entry)) (now (strings .entry)) (now (store .entry)) ⌝ }
 {
-    if LIMIT < verdef.len() {
-        return Parsed::Refused(TOO_LONG);
-    }
-    if LIMIT < verneed.len() {
-        return Parsed::Refused(TOO_LONG);
-    }
-    if LIMIT < strings.len() {
+    if any_long(verdef, verneed, strings) {
         return Parsed::Refused(TOO_LONG);
     }
     let first = first_pass(order, verdef, verneed);

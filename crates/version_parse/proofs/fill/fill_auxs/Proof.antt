@@ -1,35 +1,38 @@
 -- `version_parse::fill::fill_auxs` meets its contract. The invariant: filling from the rest, from here, gives the answer for
 -- the whole chain; the store keeps its length and has room for the rest. The measure is the count that is left. A record
 -- that is its own next stores the same the second time. Assumes nothing.
-use Prim.Native.Nat.{ℕ, _-_, _≤_}
+use Prim.Native.Nat.{ℕ, _-_}
 use mathlib.Core.Path.{_≡_, refl, sym, ap, _∙_}
 use mathlib.Core.List.{List}
 use lib.ListN.{length}
 use Rattle.endian.specs.declared.kinds.Order.{Order}
-use Rattle.version_parse.specs.Outcome.{folded}
-use Rattle.version_parse.specs.Outcome.Outcome.{fine, stop}
-use Rattle.version_parse.specs.Walk.{collect}
-use Rattle.version_parse.specs.Walk.Walk.{more}
+use Rattle.version_records.specs.Outcome.{folded}
+use Rattle.version_records.specs.Outcome.Outcome.{fine, stop}
+use Rattle.version_records.specs.Walk.{collect}
+use Rattle.version_records.specs.Walk.Walk.{more}
 use Rattle.version.specs.Store.{putEntry}
 use Rattle.version_parse.specs.declared.fill.Filled.{Filled}
 use Rattle.version.specs.Index.{isSpecial}
-use Rattle.version_parse.specs.Records.{auxOutcome, auxRefusal, auxAt, vernauxShape, vernauxs}
+use Rattle.version_records.specs.Records.{auxOutcome, auxAt, vernauxShape, vernauxs, needCount}
 use Rattle.version_layout.specs.Indices.{needIndex}
-use Rattle.version_parse.specs.Highest.{needCount}
-use Rattle.version_parse.specs.Entries.{needVersion, auxEntries, needEntries, filledOutcome}
+use Rattle.version_layout.specs.Steps.{auxRefusal}
+use Rattle.version_entries.specs.Entries.{needVersion, auxEntries}
+use Rattle.version_parse.specs.Entries.{needEntries, filledOutcome}
 use Rattle.version_parse.specs.Room.{All, AuxRoom}
-use Rattle.version_parse.specs.declared.records.Aux.{Aux}
-use Rattle.version_parse.proofs.Walks.{collect-end, collect-broken, collect-turn, collect-leave, counted-repeat, all-first, all-rest}
-use Rattle.version_parse.proofs.Bounds.{aux-place, aux-next, vernauxs-end, vernauxs-more, vernauxs-stop}
+use Rattle.version_layout.specs.declared.records.Aux.{Aux}
+use Rattle.version_records.proofs.Walks.{collect-end, collect-broken, collect-turn, collect-leave, counted-repeat}
+use Rattle.version_records.proofs.Bounds.{vernauxs-end, vernauxs-more, vernauxs-stop}
 use Rattle.version_parse.proofs.Again.{storing-again}
+use Rattle.version_records.proofs.Steps.{aux-says}
+use Rattle.version_entries.proofs.Entered.{entry-says}
+use Rattle.version_parse.proofs.Rooms.{all-first, all-rest, entry-room}
 use borrow.Author.Needs.{needs}
 use Rattle.version_parse.proofs.fill.fill_auxs.Statement.{statement}
 use Rattle.version_parse.proofs.fill.fill_auxs.Tie as tie
 
 abbrev Inv-loop : tie.InvT-loop
 Inv-loop order s strings store₀ file at₀ left₀ store at left =
-    (at ≤ length s)
-    × (length store ≡ length store₀)
+    (length store ≡ length store₀)
     × All (AuxRoom order s (length store₀)) (vernauxs order s left at)
     × (folded putEntry store (collect (auxEntries order s strings file) (vernauxs order s left at))
     ≡ folded putEntry store₀ (collect (auxEntries order s strings file) (vernauxs order s left₀ at₀)))
@@ -43,7 +46,7 @@ module _ (k : tie.After-step Inv-loop μ-loop) where
   head = k .before .before .before .before
 
   abbrev start : tie.Start Inv-loop μ-loop
-  start = head .before .before .before .before .before .before .before
+  start = head .before .before .before .before .before .before .before .before
 
   abbrev order : Order
   order = start .args .order
@@ -55,7 +58,7 @@ module _ (k : tie.After-step Inv-loop μ-loop) where
   strings = start .args .strings .now
 
   abbrev file : ℕ
-  file = head .before .before .u32-at .result
+  file = head .before .before .before .u32-at .result
 
   abbrev at : ℕ
   at = head .loop .at
@@ -67,54 +70,69 @@ module _ (k : tie.After-step Inv-loop μ-loop) where
   a = k .step .given .0 .0
 
   read : auxAt vernauxShape order s at ≡ fine a
-  read = sym (k .before .before .aux-at .ensures) ∙ ap auxOutcome (k .step .given .1)
+  read = sym (aux-says _ _ (k .before .before .vernaux-at .ensures)) ∙ ap auxOutcome (k .step .given .1)
 
   walk : vernauxs order s left at ≡ more a (vernauxs order s (left - 1) (a .next))
   walk = vernauxs-more order s left at a (k .before .before .before .loop-test .taken) read
 
 -- the invariant, with the file and the count that were read
 whole : (head : tie.At-loop Inv-loop μ-loop) →
-    let args = head .before .before .before .before .before .before .before .args in
+    let args = head .before .before .before .before .before .before .before .before .args in
     folded putEntry (head .loop .store) (collect (auxEntries (args .order) (args .s .now) (args .strings .now)
-    (head .before .before .u32-at .result))
+    (head .before .before .before .u32-at .result))
     (vernauxs (args .order) (args .s .now) (head .loop .left) (head .loop .at)))
     ≡ folded putEntry (args .store .now) (needEntries (args .order) (args .s .now) (args .strings .now) (args .need))
 whole head =
-    let args = head .before .before .before .before .before .before .before .args in
-    head .loop .inv .3
+    let args = head .before .before .before .before .before .before .before .before .args in
+    head .loop .inv .2
     ∙ ap (λ (n : ℕ). folded putEntry (args .store .now)
-    (collect (auxEntries (args .order) (args .s .now) (args .strings .now) (head .before .before .u32-at .result))
-    (vernauxs (args .order) (args .s .now) n (args .need .aux)))) (head .before .need-count .ensures)
+    (collect (auxEntries (args .order) (args .s .now) (args .strings .now) (head .before .before .before .u32-at .result))
+    (vernauxs (args .order) (args .s .now) n (args .need .aux)))) (head .before .u16-at .ensures)
     ∙ ap (λ (n : ℕ). folded putEntry (args .store .now)
     (collect (auxEntries (args .order) (args .s .now) (args .strings .now) n)
     (vernauxs (args .order) (args .s .now) (needCount (args .order) (args .s .now) (args .need)) (args .need .aux))))
-    (head .before .before .u32-at .ensures)
+    (head .before .before .before .u32-at .ensures)
+
+-- what has been stored
+stored : (called : tie.After-put Inv-loop μ-loop) →
+    let k = called .before .before .before .before in
+    filledOutcome (called .put .result) (called .put .last .1 .0)
+    ≡ folded putEntry (head k .loop .store) (auxEntries (order k) (s k) (strings k) (file k) (a k))
+stored called =
+    let k = called .before .before .before .before in
+    called .put .ensures
+    ∙ ap (folded putEntry (head k .loop .store)) (entry-says _ (isSpecial (needIndex (order k) (s k) (a k .at)))
+    (needIndex (order k) (s k) (a k .at)) (needVersion (order k) (s k) (strings k) (file k) (a k))
+    (called .before .before .need-entry .ensures))
 
 add-u32-at : tie.Need-add-u32-at Inv-loop μ-loop
 add-u32-at c = search needs
 
 u32-at-requires : tie.Need-u32-at-requires Inv-loop μ-loop
-u32-at-requires c κs = search needs
+u32-at-requires c κs = tt
 
-need-count-requires : tie.Need-need-count-requires Inv-loop μ-loop
-need-count-requires c κs = c .before .before .before .before .before .pre .0 .0
+add-u16-at : tie.Need-add-u16-at Inv-loop μ-loop
+add-u16-at c = search needs
+
+u16-at-requires : tie.Need-u16-at-requires Inv-loop μ-loop
+u16-at-requires c κs = tt
 
 loop-holds : tie.Need-loop-holds Inv-loop μ-loop
 loop-holds c =
-    let start = c .before .before .before .before .before .before in
-    (start .pre .0 .1, refl, rw (c .need-count .ensures) (start .pre .1), refl)
+    let start = c .before .before .before .before .before .before .before in
+    (refl, rw (c .u16-at .ensures) (start .pre .1), refl)
 
-aux-at-requires : tie.Need-aux-at-requires Inv-loop μ-loop
-aux-at-requires c κs = search needs
+vernaux-at-requires : tie.Need-vernaux-at-requires Inv-loop μ-loop
+vernaux-at-requires c κs = tt
 
 enum-known-step : tie.Need-enum-known-step Inv-loop μ-loop
-enum-known-step c = search needs
+enum-known-step c = c .match .keys1
 
 enum-told : tie.Need-enum-told Inv-loop μ-loop
-enum-told c = search needs
+enum-told c = c .match .keys2
 
 aux-refusal-requires : tie.Need-aux-refusal-requires Inv-loop μ-loop
-aux-refusal-requires c κs = search needs
+aux-refusal-requires c κs = tt
 
 same-length : tie.Need-same-length Inv-loop μ-loop
 same-length c = search needs
@@ -123,61 +141,64 @@ returns : tie.Need-returns Inv-loop μ-loop
 returns c =
     let called = c .before .before .before in
     let head = called .before .before in
-    let start = head .before .before .before .before .before .before .before in
+    let start = head .before .before .before .before .before .before .before .before in
     let args = start .args in
     let told = c .before .enum-told .given .1 in
     let refused : auxAt vernauxShape (args .order) (args .s .now) (head .loop .at) ≡ stop (c .aux-refusal .result) =
-    sym (called .aux-at .ensures) ∙ ap auxOutcome told ∙ ap stop (sym (c .aux-refusal .ensures ∙ ap auxRefusal told)) in
+    sym (aux-says _ _ (called .vernaux-at .ensures)) ∙ ap auxOutcome told ∙ ap stop (sym (c .aux-refusal .ensures ∙ ap auxRefusal told)) in
     sym (collect-broken putEntry (auxEntries (args .order) (args .s .now) (args .strings .now)
-    (head .before .before .u32-at .result)) (head .loop .store) _ _
+    (head .before .before .before .u32-at .result)) (head .loop .store) _ _
     (vernauxs-stop (args .order) (args .s .now) (head .loop .left) (head .loop .at) _
     (called .before .loop-test .taken) refused))
     ∙ whole head
 
-fill-aux-requires : tie.Need-fill-aux-requires Inv-loop μ-loop
-fill-aux-requires c κs =
-    let k = c .before .before in
-    let inv = head k .loop .inv in (
-      aux-place vernauxShape (order k) (s k) (at k) (a k) (read k) (inv .0),
-      rw (inv .1) (all-first (AuxRoom (order k) (s k) _) _ (a k) _ (walk k) (inv .2)),
-    )
+need-entry-requires : tie.Need-need-entry-requires Inv-loop μ-loop
+need-entry-requires c κs = tt
+
+put-requires : tie.Need-put-requires Inv-loop μ-loop
+put-requires c κs =
+    let k = c .before .before .before in
+    let inv = head k .loop .inv in
+    let room = all-first (AuxRoom (order k) (s k) _) _ (a k) _ (walk k) (inv .1) in
+    rw (inv .0) (entry-room _ _ (isSpecial (needIndex (order k) (s k) (a k .at))) (needIndex (order k) (s k) (a k .at))
+    (needVersion (order k) (s k) (strings k) (file k) (a k)) (c .before .need-entry .ensures) (λ kept. room))
 
 enum-told-2 : tie.Need-enum-told-2 Inv-loop μ-loop
-enum-told-2 c = search needs
+enum-told-2 c = c .match2 .keys1
 
 enum-told-3 : tie.Need-enum-told-3 Inv-loop μ-loop
-enum-told-3 c = search needs
+enum-told-3 c = c .match2 .keys2
 
 same-length-2 : tie.Need-same-length-2 Inv-loop μ-loop
 same-length-2 c =
     let called = c .before .before .before .before in
-    called .fill-aux .kept .1 .1 .1 .1 .1 .0 ∙ head (called .before .before .before) .loop .inv .1
+    called .put .kept .1 .0 ∙ head (called .before .before .before .before) .loop .inv .0
 
 returns-2 : tie.Need-returns-2 Inv-loop μ-loop
 returns-2 c =
     let called = c .before .before .before .before in
-    let k = called .before .before .before in
+    let k = called .before .before .before .before in
     let told =
-    ap (λ (r : Filled). filledOutcome r (called .fill-aux .last .1 .1 .1 .1 .1 .0)) (c .enum-told3 .given .1) in
+    ap (λ (r : Filled). filledOutcome r (called .put .last .1 .0)) (c .enum-told3 .given .1) in
     told
     ∙ sym (collect-leave putEntry (auxEntries (order k) (s k) (strings k) (file k)) (head k .loop .store) _ (a k) _ _
     (walk k)
-    (sym told ∙ called .fill-aux .ensures))
+    (sym told ∙ stored called))
     ∙ whole (head k)
 
 same-length-3 : tie.Need-same-length-3 Inv-loop μ-loop
 same-length-3 c =
     let called = c .before .before .before .before .before .before in
-    called .fill-aux .kept .1 .1 .1 .1 .1 .0 ∙ head (called .before .before .before) .loop .inv .1
+    called .put .kept .1 .0 ∙ head (called .before .before .before .before) .loop .inv .0
 
 returns-3 : tie.Need-returns-3 Inv-loop μ-loop
 returns-3 c =
     let told2 = c .before .before in
     let called = told2 .before .before .before .before in
-    let k = called .before .before .before in
+    let k = called .before .before .before .before in
     let told =
-    ap (λ (r : Filled). filledOutcome r (called .fill-aux .last .1 .1 .1 .1 .1 .0)) (told2 .enum-told2 .given .1) in
-    let once = sym told ∙ called .fill-aux .ensures in
+    ap (λ (r : Filled). filledOutcome r (called .put .last .1 .0)) (told2 .enum-told2 .given .1) in
+    let once = sym told ∙ stored called in
     sym (counted-repeat putEntry (auxEntries (order k) (s k) (strings k) (file k)) (auxAt vernauxShape (order k) (s k))
     (λ a. a .next) (at k) (a k) (read k)
     (c .if1 .taken) (head k .loop .store) _ (left k) (k .before .before .before .loop-test .taken) once
@@ -195,17 +216,16 @@ loop-again : tie.Need-loop-again Inv-loop μ-loop
 loop-again c =
     let told2 = c .before .before in
     let called = told2 .before .before .before .before in
-    let k = called .before .before .before in
+    let k = called .before .before .before .before in
     let inv = head k .loop .inv in
     let told =
-    ap (λ (r : Filled). filledOutcome r (called .fill-aux .last .1 .1 .1 .1 .1 .0)) (told2 .enum-told2 .given .1) in (
-      aux-next vernauxShape (order k) (s k) (at k) (a k) (read k) (inv .0),
-      called .fill-aux .kept .1 .1 .1 .1 .1 .0 ∙ inv .1,
-      all-rest (AuxRoom (order k) (s k) _) _ (a k) _ (walk k) (inv .2),
+    ap (λ (r : Filled). filledOutcome r (called .put .last .1 .0)) (told2 .enum-told2 .given .1) in (
+      called .put .kept .1 .0 ∙ inv .0,
+      all-rest (AuxRoom (order k) (s k) _) _ (a k) _ (walk k) (inv .1),
       sym (collect-turn putEntry (auxEntries (order k) (s k) (strings k) (file k)) (head k .loop .store) _ (a k) _ _
           (walk k)
-          (sym told ∙ called .fill-aux .ensures))
-          ∙ inv .3,
+          (sym told ∙ stored called))
+          ∙ inv .2,
     )
 
 same-length-4 : tie.Need-same-length-4 Inv-loop μ-loop
@@ -214,10 +234,10 @@ same-length-4 c = search needs
 returns-4 : tie.Need-returns-4 Inv-loop μ-loop
 returns-4 c =
     let head = c .before in
-    let start = head .before .before .before .before .before .before .before in
+    let start = head .before .before .before .before .before .before .before .before in
     let args = start .args in
     sym (collect-end putEntry (auxEntries (args .order) (args .s .now) (args .strings .now)
-    (head .before .before .u32-at .result)) (head .loop .store) _
+    (head .before .before .before .u32-at .result)) (head .loop .store) _
     (vernauxs-end (args .order) (args .s .now) (head .loop .left) (head .loop .at) (c .loop-test .left)))
     ∙ whole head
 
@@ -229,15 +249,17 @@ fill-auxs-spec =
     μ-loop
     add-u32-at
     u32-at-requires
-    need-count-requires
+    add-u16-at
+    u16-at-requires
     loop-holds
-    aux-at-requires
+    vernaux-at-requires
     enum-known-step
     enum-told
     aux-refusal-requires
     same-length
     returns
-    fill-aux-requires
+    need-entry-requires
+    put-requires
     enum-told-2
     enum-told-3
     same-length-2

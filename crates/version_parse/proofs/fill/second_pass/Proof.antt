@@ -1,14 +1,14 @@
 -- `version_parse::fill::second_pass` meets its contract. One list, then the other. Assumes nothing.
 use mathlib.Core.List.{List}
 use mathlib.Core.Path.{sym, ap, _∙_}
-use Rattle.version_parse.specs.Outcome.{Outcome}
-use Rattle.version_parse.specs.Walk.{collect}
-use Rattle.version_parse.specs.Records.{verdefs, verneeds}
+use Rattle.version_records.specs.Outcome.{Outcome}
+use Rattle.version_records.specs.Walk.{collect}
+use Rattle.version_records.specs.Records.{verdefs, verneeds}
 use Rattle.version.specs.Store.{Stored, putEntry}
-use Rattle.version_parse.specs.Entries.{defEntries, needEntries, filledOutcome}
+use Rattle.version_entries.specs.Entries.{defEntries}
+use Rattle.version_parse.specs.Entries.{needEntries, filledOutcome}
 use Rattle.version_parse.specs.declared.fill.Filled.{Filled}
-use Rattle.version_parse.proofs.Outcomes.{both-go, both-leave}
-use borrow.Author.Needs.{needs}
+use Rattle.version_records.proofs.Outcomes.{both-go, both-leave}
 use Rattle.version_parse.proofs.fill.second_pass.Statement.{statement}
 use Rattle.version_parse.proofs.fill.second_pass.Tie as tie
 
@@ -31,10 +31,10 @@ fill-defs-requires : tie.Need-fill-defs-requires
 fill-defs-requires c κs = c .before .before .before .before .before .pre .0
 
 enum-told : tie.Need-enum-told
-enum-told c = search needs
+enum-told c = c .match .keys1
 
 enum-told-2 : tie.Need-enum-told-2
-enum-told-2 c = search needs
+enum-told-2 c = c .match .keys2
 
 same-length : tie.Need-same-length
 same-length c = c .before .before .before .before .fill-defs .kept .1 .1 .1 .0

@@ -1,13 +1,12 @@
 -- `version_parse::parse::high_refusal` meets its contract. Assumes nothing.
-use borrow.Author.Needs.{needs}
 use Rattle.version_parse.proofs.parse.high_refusal.Statement.{statement}
 use Rattle.version_parse.proofs.parse.high_refusal.Tie as tie
 
 enum-told : tie.Need-enum-told
-enum-told c = search needs
+enum-told c = c .match .keys1
 
 enum-known-high : tie.Need-enum-known-high
-enum-known-high c = search needs
+enum-known-high c = c .match .keys2
 
 returns : tie.Need-returns
 returns c = cc

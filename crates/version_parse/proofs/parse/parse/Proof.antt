@@ -4,7 +4,6 @@ use mathlib.Core.Path.{_≡_, sym, ap, _∙_}
 use lib.ListN.{length, replicate}
 use Rattle.version_parse.specs.Parse.{parsedInto, parsed, parsedOutcome}
 use Rattle.version_parse.proofs.Parses.{answered, stored-done, stored-refused}
-use borrow.Author.Needs.{needs}
 use Rattle.version_parse.proofs.parse.parse.Statement.{statement}
 use Rattle.version_parse.proofs.parse.parse.Tie as tie
 
@@ -22,19 +21,19 @@ module _ (called : tie.After-attempt) where
       (start .args .strings .now)) (called .before .before .before .before .zero .ensures)
 
 zero-requires : tie.Need-zero-requires
-zero-requires c κs = search needs
+zero-requires c κs = tt
 
 attempt-requires : tie.Need-attempt-requires
-attempt-requires c κs = search needs
+attempt-requires c κs = tt
 
 enum-known-done : tie.Need-enum-known-done
-enum-known-done c = search needs
+enum-known-done c = c .match .keys1
 
 enum-told : tie.Need-enum-told
-enum-told c = search needs
+enum-told c = c .match .keys2
 
 zero-requires-2 : tie.Need-zero-requires-2
-zero-requires-2 c κs = search needs
+zero-requires-2 c κs = tt
 
 same-length : tie.Need-same-length
 same-length c =

@@ -1,0 +1,2 @@
+// What the records of the version sections store.
+pub mod entries;

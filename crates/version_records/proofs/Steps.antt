@@ -1,0 +1,19 @@
+-- What an answer says, where it is what an outcome is answered with.
+--     record-says, aux-says    of a record of a list, of a chain
+-- Assumes nothing.
+use mathlib.Core.Path.{_≡_, ap}
+use Rattle.version_records.specs.Outcome.{Outcome}
+use Rattle.version_records.specs.Outcome.Outcome.{fine, stop}
+use Rattle.version_records.specs.Records.{recordStep, recordOutcome, auxStep, auxOutcome}
+use Rattle.version_layout.specs.declared.records.Record.{Record}
+use Rattle.version_layout.specs.declared.records.RecordStep.{RecordStep}
+use Rattle.version_layout.specs.declared.records.Aux.{Aux}
+use Rattle.version_layout.specs.declared.records.AuxStep.{AuxStep}
+
+pub record-says : (step : RecordStep) (o : Outcome Record) → step ≡ recordStep o → recordOutcome step ≡ o
+record-says step (fine r) h = ap recordOutcome h
+record-says step (stop e) h = ap recordOutcome h
+
+pub aux-says : (step : AuxStep) (o : Outcome Aux) → step ≡ auxStep o → auxOutcome step ≡ o
+aux-says step (fine a) h = ap auxOutcome h
+aux-says step (stop e) h = ap auxOutcome h
