@@ -6,11 +6,8 @@ use export_lookup::lookup_answer;
 use export_version_match::need_of;
 use gnu::find::find;
 ghost use mathlib.Core.Path.{_≡_};
-ghost use Rattle.lookup.specs.Wanted.{Parts, Asked};
-ghost use Rattle.gnu.specs.Find.{gnuFind};
-ghost use Rattle.export.specs.Answers.{classOf, orderOf};
 ghost use Rattle.export_version_match.specs.Answers.{needOf};
-ghost use Rattle.export_lookup.specs.Answers.{lookupAnswer};
+ghost use Rattle.export_gnu_find.specs.Answers.{gnuAnswer};
 
 // The symbol of a name and a version in a GNU table.
 #[no_mangle]
@@ -30,7 +27,7 @@ pub extern "C" fn fetulombo_gnu_find(
     need_name: &[u8],
 ) -> LookupAnswer
     ensures { λ r. ⌜ r
-        ≡ lookupAnswer (gnuFind (classOf class) (orderOf order)
+        ≡ gnuAnswer class order
         (record {
           table = now (table .entry);
           symbols = now (symbols .entry);
@@ -44,7 +41,7 @@ pub extern "C" fn fetulombo_gnu_find(
           need = needOf needed «need_hash»;
           needName = now («need_name» .entry);
         })
-        hash) ⌝ }
+        hash ⌝ }
 {
     lookup_answer(find(
         class_of(class),
