@@ -8,6 +8,7 @@ use fetulombo::LIMIT;
 
 pub fn compare(run: &mut Run) {
     short(run);
+    one_byte(run);
     random(run);
     limits(run);
     libraries(run);
@@ -74,6 +75,23 @@ fn short(run: &mut Run) {
         for offset in 0..=strings.len() as u32 + 1 {
             for name in &names {
                 equals(run, &strings, offset, name);
+            }
+        }
+    }
+}
+
+/// Names of up to 40 bytes, of the strings that have them and of those that differ in one byte, their
+/// end among these.
+fn one_byte(run: &mut Run) {
+    for length in 0..=40 {
+        let name: Vec<u8> = (b'a'..).take(length).collect();
+        let mut strings = [b"x", &name[..], b"\0y\0"].concat();
+        equals(run, &strings, 1, &name);
+        for place in 1..=length + 1 {
+            for other in [0, b'!'] {
+                let byte = std::mem::replace(&mut strings[place], other);
+                equals(run, &strings, 1, &name);
+                strings[place] = byte;
             }
         }
     }
