@@ -13,7 +13,7 @@ EXPORTS := words strings symbols symbol_facts hashes notes properties versions v
 ARCHIVE := target/staticlib/libfetulombo.a
 OBJECTS := target/archive
 SECOND := target/second
-HALF := 9
+HALF := $(shell expr $(words $(EXPORTS)) / 2)
 # What those crates are proved over.
 BELOW := $(sort $(shell sed -n 's/^export_[a-z_]*:\([^\#]*\).*/\1/p' crates.txt))
 
