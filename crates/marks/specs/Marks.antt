@@ -1,44 +1,29 @@
 -- The marks of an import: what is against signing it, beside document 01's answer.
---     isHidden                      whether a visibility is that of a symbol that no other file sees
---     entryMarks, noEntryMarks      what the fields of a found symbol say; nothing, where none is found
+--     noEntryMarks                  where no symbol is found
 --     marksBy, foundMarks, marksFor of a need, the counts and an answer
 --     marksOf                       of an import and its answer; 1 for a part or a name too long
---     anyEntryMark, anyMark         whether the line is not to be signed
+--     anyMark                       whether the line is not to be signed
 -- Assumes nothing.
 use Prim.Native.Nat.{ℕ, _/_}
 use mathlib.Core.Bool.{Bool, false, cond, _||_}
 use mathlib.Core.List.{List, [], _∷_}
-use lib.Dec.{eqb, ltb}
+use lib.Dec.{ltb}
 use lib.ListN.{length}
 use Rattle.endian.specs.declared.kinds.Class.{Class}
 use Rattle.endian.specs.declared.kinds.Order.{Order}
 use Rattle.endian.specs.Refusals.{anyLong, tooLong}
-use Rattle.symbol_entry.specs.declared.Symbol.{Symbol}
-use Rattle.symbol_entry.specs.Entry.{typeOf, visibilityOf, isUndefined, isLocal}
+use Rattle.entry_marks.specs.declared.EntryMarks.{EntryMarks}
+use Rattle.entry_marks.specs.Marks.{entryMarks, anyEntryMark}
 use Rattle.symbol.specs.declared.table.SymbolAt.{SymbolAt}
 use Rattle.symbol.specs.declared.table.SymbolAt.the-variants.{At as Symbol·At, Refused as Symbol·Refused}
 use Rattle.symbol.specs.Table.{symbolAt, symbolSize}
 use Rattle.version_match.specs.declared.Need.{Need}
 use Rattle.lookup.specs.declared.Answer.{Answer}
 use Rattle.definitions.specs.declared.Which.the-variants.{All, Unversioned}
-use Rattle.marks.specs.declared.EntryMarks.{EntryMarks}
 use Rattle.marks.specs.declared.Marks.{Marks}
 use Rattle.marks.specs.declared.MarksAt.{MarksAt}
 use Rattle.marks.specs.declared.MarksAt.the-variants.{At, Refused}
 use Rattle.definitions.specs.Definitions.{definesIn, countIn}
-
--- STV_INTERNAL and STV_HIDDEN
-abbrev pub isHidden : ℕ → Bool
-isHidden visibility = eqb visibility 1 || eqb visibility 2
-
--- STT_GNU_IFUNC is type 10
-abbrev pub entryMarks : Symbol → EntryMarks
-entryMarks symbol = record {
-  undefined = isUndefined symbol;
-  local = isLocal symbol;
-  hidden = isHidden (visibilityOf symbol);
-  ifunc = eqb (typeOf symbol) 10;
-}
 
 abbrev pub noEntryMarks : EntryMarks
 noEntryMarks = record { undefined = false; local = false; hidden = false; ifunc = false }
@@ -70,9 +55,6 @@ marksOf class order symbols strings versyms name need answer =
     (countIn (definesIn class order symbols strings versyms name All) symbolCount)
     (countIn (definesIn class order symbols strings versyms name Unversioned) symbolCount)
     answer)
-
-abbrev pub anyEntryMark : EntryMarks → Bool
-anyEntryMark marks = marks .undefined || (marks .local || (marks .hidden || marks .ifunc))
 
 abbrev pub anyMark : Marks → Bool
 anyMark marks = marks .several || (marks .unversioned || (marks .unfound || anyEntryMark (marks .found)))

@@ -7,29 +7,14 @@ use endian::kinds::Class;
 use endian::kinds::Order;
 use endian::refusals::Refusal;
 use endian::refusals::TOO_LONG;
+use entry_marks::EntryMarks;
+use entry_marks::entry_marks;
 use lookup::Answer;
 use symbol::table::SymbolAt;
 use symbol::table::symbol_at;
-use symbol_entry::Symbol;
 use version_match::Need;
 ghost use mathlib.Core.Path.{_≡_};
-ghost use Rattle.marks.specs.Marks.{isHidden, entryMarks, noEntryMarks, marksBy, marksFor, marksOf, anyEntryMark, anyMark};
-
-// The gABI's visibilities by which no other file sees a symbol, and GNU's type of a routine that is
-// chosen when the program starts.
-pub const STV_INTERNAL: u8 = 1;
-
-pub const STV_HIDDEN: u8 = 2;
-
-pub const STT_GNU_IFUNC: u8 = 10;
-
-// What the fields of a found symbol say.
-pub struct EntryMarks {
-    pub undefined: bool,
-    pub local: bool,
-    pub hidden: bool,
-    pub ifunc: bool,
-}
+ghost use Rattle.marks.specs.Marks.{noEntryMarks, marksBy, marksFor, marksOf, anyMark};
 
 // Several: no version is stated, and the library holds more than one definition of the name.
 // Unversioned: a version is stated, and the library holds a definition of the name without one.
@@ -44,23 +29,6 @@ pub struct Marks {
 pub enum MarksAt {
     At(Marks),
     Refused(Refusal),
-}
-
-impl EntryMarks {
-    fn any(self) -> bool
-        ensures { λ r. ⌜ r ≡ anyEntryMark self ⌝ }
-    {
-        if self.undefined {
-            return true;
-        }
-        if self.local {
-            return true;
-        }
-        if self.hidden {
-            return true;
-        }
-        self.ifunc
-    }
 }
 
 impl Marks {
@@ -79,26 +47,6 @@ impl Marks {
         }
         let found = self.found;
         found.any()
-    }
-}
-
-fn is_hidden(visibility: u8) -> bool
-    ensures { λ r. ⌜ r ≡ isHidden visibility ⌝ }
-{
-    if visibility == STV_INTERNAL {
-        return true;
-    }
-    visibility == STV_HIDDEN
-}
-
-fn entry_marks(symbol: Symbol) -> EntryMarks
-    ensures { λ r. ⌜ r ≡ entryMarks symbol ⌝ }
-{
-    EntryMarks {
-        undefined: symbol.is_undefined(),
-        local: symbol.is_local(),
-        hidden: is_hidden(symbol.visibility()),
-        ifunc: symbol.kind() == STT_GNU_IFUNC,
     }
 }
 

@@ -10,7 +10,7 @@ use definitions::Which;
 use definitions::defines;
 use endian::kinds::Class;
 use endian::kinds::Order;
-use marks::EntryMarks;
+use entry_marks::EntryMarks;
 use marks::Marks;
 use symbol::table::SymbolCount;
 use symbol::table::SymbolIndex;

@@ -1,7 +1,7 @@
--- `marks::is_hidden` meets its contract. Assumes nothing.
+-- `entry_marks::is_hidden` meets its contract. Assumes nothing.
 use borrow.Author.Tests.{eq-eqb, ne-eqb}
-use Rattle.marks.proofs.is_hidden.Statement.{statement}
-use Rattle.marks.proofs.is_hidden.Tie as tie
+use Rattle.entry_marks.proofs.is_hidden.Statement.{statement}
+use Rattle.entry_marks.proofs.is_hidden.Tie as tie
 
 returns : tie.Need-returns
 returns c = rw (eq-eqb _ _ (c .if1 .taken))

@@ -1,7 +1,7 @@
--- `marks::entry_marks` meets its contract: each mark is what its callee answers. Assumes nothing.
+-- `entry_marks::entry_marks` meets its contract: each mark is what its callee answers. Assumes nothing.
 use borrow.Author.Needs.{needs}
-use Rattle.marks.proofs.entry_marks.Statement.{statement}
-use Rattle.marks.proofs.entry_marks.Tie as tie
+use Rattle.entry_marks.proofs.entry_marks.Statement.{statement}
+use Rattle.entry_marks.proofs.entry_marks.Tie as tie
 
 is-undefined-requires : tie.Need-is-undefined-requires
 is-undefined-requires c κs = search needs
