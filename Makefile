@@ -1,6 +1,6 @@
 # make run    proves and runs the program that shows the library at work
-# make test   everything: the comparison with the original where it is at hand, the C and Rust tests
-#             of the archive, and last the gate
+# make test   everything: the gate and, beside it, the C and Rust tests of the archive and the comparison
+#             with the original where it is at hand
 # make record writes the lists of the replay programs anew, from the original
 # make speed  times the archive beside the original
 #
@@ -12,6 +12,7 @@ CARGO := cargo
 EXPORTS := words strings symbols symbol_facts hashes notes properties versions version_match version_parse gnu_find sysv_find lengths checks segments segment_data segment_dynamic segment_parts
 ARCHIVE := target/staticlib/libfetulombo.a
 OBJECTS := target/archive
+FIRST := target/first
 SECOND := target/second
 HALF := $(shell expr $(words $(EXPORTS)) / 2)
 # What those crates are proved over.
@@ -56,7 +57,7 @@ endif
 
 COMPARE := compare/target/$(BUILT)/compare
 
-.PHONY: run test archive calls comparison record speed gate clean
+.PHONY: run test proved archive calls comparison record speed clean
 
 # Without an emulator of ours, on another processor, what rt has found the program to write is printed.
 run:
@@ -64,22 +65,24 @@ run:
 	@echo
 	@$(if $(TOOLS),$(EMULATOR) target/bin/show,cat crates/show/stdout)
 
-# The gate comes last: its last line is the verdict.
-test: calls comparison
-	$(MAKE) --no-print-directory gate
+test:
+	tests/all
+
+proved:
+	rt check $(BELOW)
 
 # Each export crate is one object, in which the exported functions alone are global. Two rt in one folder would
-# disturb each other, so half of them are built in a second one.
-archive:
-	rm -rf $(OBJECTS) $(ARCHIVE) $(SECOND)
-	mkdir -p $(OBJECTS) $(SECOND)/target
-	rt check $(BELOW)
-	cp -r crates.txt crates $(SECOND)
-	cp -r target/rlib target/stamp $(SECOND)/target
-	set -e; build() { for e in "$$@"; do rt staticlib export_$$e || return; done; }; \
-	  (cd $(SECOND) && build $(wordlist 1,$(HALF),$(EXPORTS))) & second=$$!; \
-	  build $(filter-out $(wordlist 1,$(HALF),$(EXPORTS)),$(EXPORTS)); wait $$second
-	cp $(SECOND)/target/staticlib/*.a target/staticlib
+# disturb each other, so each half of them is built in a folder of its own; in target/ the gate may be at work
+# (tests/all), which has then proved what is below.
+archive: $(if $(BESIDE_GATE),,proved)
+	rm -rf $(OBJECTS) $(ARCHIVE) $(FIRST) $(SECOND)
+	mkdir -p $(OBJECTS) target/staticlib
+	for f in $(FIRST) $(SECOND); do \
+	  mkdir -p $$f/target && cp -r crates.txt crates $$f && cp -r target/rlib target/stamp $$f/target || exit; done
+	set -e; build() { cd $$1; shift; for e in "$$@"; do rt staticlib export_$$e || return; done; }; \
+	  (build $(SECOND) $(wordlist 1,$(HALF),$(EXPORTS))) & second=$$!; \
+	  (build $(FIRST) $(filter-out $(wordlist 1,$(HALF),$(EXPORTS)),$(EXPORTS))); wait $$second
+	cp $(FIRST)/target/staticlib/*.a $(SECOND)/target/staticlib/*.a target/staticlib
 	cd $(OBJECTS) && for e in $(EXPORTS); do $(AR) x ../staticlib/libexport_$$e.a || exit; done
 	$(AR) rcs $(ARCHIVE) $(EXPORTS:%=$(OBJECTS)/export_%.o)
 
@@ -125,9 +128,6 @@ calls comparison record speed:
 	@echo "The archive is for x86-64, and no cross compiler and emulator for it are at hand: $@ IS NOT RUN."
 	@echo "The replay programs of the gate run the original's recorded answers."
 endif
-
-gate:
-	rt ci
 
 clean:
 	rm -rf target rust/target compare/target compare/oracle
