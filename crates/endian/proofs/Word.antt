@@ -3,17 +3,15 @@
 --     word-join    a word of m + n bytes is its first m joined with its last n
 --     word-bytes   two bytes
 --     word-lt      it fits its bytes
---     swap-byte    one byte is its own swap
---     swap-halves  a word's swap, from those of its halves
 --     word-past    a word at or past the end is 0
-use Prim.Native.Nat.{ℕ, zero, suc, _+_, _*_, _/_, _%_, _^_, _≤_, _<_}
-use mathlib.Core.Path.{_≡_, refl, sym, ap, _∙_}
+use Prim.Native.Nat.{ℕ, zero, suc, _+_, _*_, _^_, _≤_, _<_}
+use mathlib.Core.Path.{_≡_, refl, _∙_}
 use mathlib.Core.List.{List}
 use native.Mathlib.Omega.{arith}
-use native.Mathlib.Nat.{add-zero, add-suc, add-comm, add-assoc, mul-add, mul-zero, mul-assoc, mul-le-mul-left, mul-comm, pow-succ', pow-le-pow-right, lt-of-lt-of-le, add-mul-div-left, add-mul-mod-self-left, mod-eq-of-lt, div-eq-of-lt}
+use native.Mathlib.Nat.{add-zero, add-suc, add-comm, add-assoc, mul-add, mul-zero, mul-assoc, mul-le-mul-left, pow-succ', pow-le-pow-right, lt-of-lt-of-le}
 use lib.Pow.{pow-add}
 use lib.ListN.{length, getD, List·getD-eq-default}
-use Rattle.endian.specs.Word.{wordAt, joined, Bytes, Swapped}
+use Rattle.endian.specs.Word.{wordAt, joined, Bytes}
 use Rattle.endian.specs.declared.kinds.Order.{Order}
 use Rattle.endian.specs.declared.kinds.Order.the-variants.{Little, Big}
 
@@ -52,21 +50,6 @@ word-lt Little (suc n) s at bytes =
     rw pow-succ' (omega (arith, word-lt Little n s at bytes))
 word-lt Big zero s at bytes = omega arith
 word-lt Big (suc n) s at bytes = rw pow-succ' (omega (arith, word-lt Big n s at bytes, bytes (at + n)))
-
-pub swap-byte : (x : ℕ) → Swapped 1 x x
-swap-byte x s at bytes e = cc (word-byte Little s at, word-byte Big s at)
-
-pub swap-halves : (n x first last : ℕ) → Swapped n (x % 256 ^ n) first → Swapped n (x / 256 ^ n) last
-    → Swapped (n + n) x (first * 256 ^ n + last)
-swap-halves n x first last f l s at bytes e =
-    let fits = word-lt Little n s at bytes in
-    let some : 0 < 256 ^ n = omega arith in
-    let whole = e ∙ word-join Little n n s at in
-    let low : x % 256 ^ n ≡ wordAt Little n s at =
-    rw (whole, add-mul-mod-self-left (wordAt Little n s at) (256 ^ n) (wordAt Little n s (at + n))) (mod-eq-of-lt fits) in
-    let high : x / 256 ^ n ≡ wordAt Little n s (at + n) =
-    rw (whole, add-mul-div-left (wordAt Little n s at) (wordAt Little n s (at + n)) some, div-eq-of-lt fits) (omega arith) in
-    rw (word-join Big n n s at, f s at bytes low, l s (at + n) bytes high, mul-comm (wordAt Big n s at) (256 ^ n))
 
 pub word-more : (n : ℕ) (s : List ℕ) (at : ℕ) → wordAt Little (n + 1) s at ≡ getD s at 0 + 256 * wordAt Little n s (at + 1)
 word-more n s at = rw (add-comm n 1, word-join Little 1 n s at, word-byte Little s at)

@@ -4,9 +4,7 @@
 --     fieldAt   the field of the record at a place
 --     joined    the word of `m` bytes with value a, followed by `n` bytes with value b
 --     Bytes     every element is a byte
---     Swapped   the word x of `width` bytes is r with its bytes the other way round
 use Prim.Native.Nat.{ℕ, zero, suc, _+_, _*_, _^_, _<_}
-use mathlib.Core.Path.{_≡_}
 use mathlib.Core.List.{List}
 use lib.ListN.{getD}
 use Rattle.endian.specs.declared.kinds.Order.{Order}
@@ -32,6 +30,3 @@ joined Big m n a b = 256 ^ n * a + b
 
 abbrev pub Bytes : List ℕ → Type 0
 Bytes s = (i : ℕ) → getD s i 0 < 256
-
-abbrev pub Swapped : (width x r : ℕ) → Type 0
-Swapped width x r = (s : List ℕ) (at : ℕ) → Bytes s → x ≡ wordAt Little width s at → r ≡ wordAt Big width s at

@@ -1,5 +1,4 @@
 // What every other crate stands on: class and byte order as values, the size limit, the refusals
-// by number, and words of 2, 4 and 8 bytes at a place.
+// by number, and in `specs/` what a word at a place is.
 pub mod kinds;
 pub mod refusals;
-pub mod words;

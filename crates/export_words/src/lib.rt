@@ -1,13 +1,13 @@
 // Words at a place, for C. Refused: bytes that are too long.
 use endian::refusals::LIMIT;
 use endian::refusals::TOO_LONG;
-use endian::words::u16_at;
-use endian::words::u32_at;
-use endian::words::u64_at;
 use export::answers::NumberAnswer;
 use export::answers::no_number;
 use export::answers::number_answer;
 use export::kinds::order_of;
+use word::u16_at;
+use word::u32_at;
+use word::u64_at;
 ghost use mathlib.Core.Path.{_≡_};
 ghost use Rattle.export.specs.Answers.{orderOf};
 ghost use Rattle.export_words.specs.Answers.{wordAnswer};

@@ -2,11 +2,11 @@
 use endian::kinds::Class;
 use endian::kinds::Order;
 use endian::refusals::Refusal;
-use endian::words::u32_at;
 use gnu_table::header::HeaderAt;
 use gnu_table::header::Layout;
 use gnu_table::header::header;
 use gnu_table::words::word_of;
+use word::u32_at;
 ghost use mathlib.Core.Path.{_≡_};
 ghost use mathlib.Core.Option.{some, none};
 ghost use Prim.Native.Nat.{_^_, _≤_, _<_, max};

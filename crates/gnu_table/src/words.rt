@@ -1,6 +1,6 @@
 // The words of a table.
 use endian::kinds::Order;
-use endian::words::u32_at;
+use word::u32_at;
 ghost use mathlib.Core.Path.{_≡_};
 ghost use Prim.Native.Nat.{_+_, _*_};
 ghost use Rattle.endian.specs.Word.{wordAt};

@@ -2,8 +2,6 @@
 // input (docs/COMPARISON.md). Prints how many there were and how many answers differ.
 use endian::kinds::Class;
 use endian::kinds::Order;
-use endian::words::u8_at;
-use endian::words::u32_at;
 use export::kinds::class_of;
 use export::kinds::order_of;
 use gnu_length::TableLength;
@@ -14,6 +12,8 @@ use sysv_header::length::ChainCount;
 use version_match::Need;
 use version_parse::parse::Parsed;
 use version_parse::parse::parse;
+use word::u8_at;
+use word::u32_at;
 
 const RECORD: usize = 640;
 

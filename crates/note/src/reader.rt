@@ -7,7 +7,7 @@ use endian::refusals::LIMIT;
 use endian::refusals::NOTE_SHORT;
 use endian::refusals::Refusal;
 use endian::refusals::TOO_LONG;
-use endian::words::u32_at;
+use word::u32_at;
 ghost use mathlib.Core.Path.{_≡_};
 ghost use Prim.Native.Nat.{_+_, _<_};
 ghost use Rattle.note.specs.Notes.{aligned, readerFor, to, noteStep, readerAfter};

@@ -1,8 +1,6 @@
 // Replays the original's recorded walks over notes and properties: records of 128 bytes on the
 // standard input (docs/COMPARISON.md). Prints how many there were and how many walks differ.
 use endian::kinds::Order;
-use endian::words::u8_at;
-use endian::words::u32_at;
 use export::kinds::class_of;
 use export::kinds::order_of;
 use libc::STDIN_FILENO;
@@ -17,6 +15,8 @@ use property_reader::PropertyNumber;
 use property_reader::PropertyReader;
 use property_reader::PropertyStep;
 use property_reader::property_number;
+use word::u8_at;
+use word::u32_at;
 ghost use Prim.Native.Nat.{_<_};
 
 const RECORD: usize = 128;

@@ -2,9 +2,6 @@
 // (docs/COMPARISON.md). Prints how many there were and how many answers differ.
 use endian::kinds::Class;
 use endian::kinds::Order;
-use endian::words::u8_at;
-use endian::words::u32_at;
-use endian::words::u64_at;
 use export::kinds::class_of;
 use export::kinds::order_of;
 use libc::STDIN_FILENO;
@@ -25,6 +22,9 @@ use segment_parts::interpreter::SegmentInterpreter;
 use segment_parts::interpreter::segment_interpreter;
 use segment_parts::notes::SegmentNotes;
 use segment_parts::notes::segment_notes;
+use word::u8_at;
+use word::u32_at;
+use word::u64_at;
 
 const RECORD: usize = 320;
 

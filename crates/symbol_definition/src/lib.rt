@@ -42,7 +42,7 @@ fn starts_with_dollar(strings: &[u8], offset: u32) -> bool
             if len == 0 {
                 return false;
             }
-            endian::words::u8_at(strings, start) == b'$'
+            word::u8_at(strings, start) == b'$'
         }
         StringAt::Refused(_) => false,
     }

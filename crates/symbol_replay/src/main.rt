@@ -1,10 +1,6 @@
 // Replays the original's recorded answers about symbols: records of 128 bytes on the standard input
 // (docs/COMPARISON.md). Prints how many there were and how many answers differ.
 use endian::kinds::Order;
-use endian::words::u8_at;
-use endian::words::u16_at;
-use endian::words::u32_at;
-use endian::words::u64_at;
 use export::kinds::class_of;
 use export::kinds::order_of;
 use libc::STDIN_FILENO;
@@ -12,6 +8,10 @@ use libc::STDOUT_FILENO;
 use strings::StringAt;
 use symbol::table::SymbolAt;
 use symbol::table::SymbolIndex;
+use word::u8_at;
+use word::u16_at;
+use word::u32_at;
+use word::u64_at;
 
 const RECORD: usize = 128;
 

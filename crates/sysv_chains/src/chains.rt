@@ -2,8 +2,8 @@
 use super::names::symbol_hash;
 use endian::kinds::Class;
 use endian::kinds::Order;
-use endian::words::u32_at;
 use symbol::table::SymbolIndex;
+use word::u32_at;
 ghost use mathlib.Core.Path.{_≡_};
 ghost use Prim.Native.Nat.{_+_, _*_, _%_, _^_, _<_};
 ghost use Rattle.endian.specs.Word.{wordAt};

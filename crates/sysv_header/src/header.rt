@@ -6,7 +6,7 @@ use endian::refusals::BAD_SYSV_HEADER;
 use endian::refusals::LIMIT;
 use endian::refusals::Refusal;
 use endian::refusals::TOO_LONG;
-use endian::words::u32_at;
+use word::u32_at;
 ghost use mathlib.Core.Path.{_≡_};
 ghost use Rattle.sysv_header.specs.Header.{headerAt};
 

@@ -1,7 +1,6 @@
 // The first pass: the highest index that the definitions and the needs name.
 use endian::kinds::Order;
 use endian::refusals::Refusal;
-use endian::words::u16_at;
 use version::index::VersionIndex;
 use version_layout::indices::def_index;
 use version_layout::indices::need_index;
@@ -14,6 +13,7 @@ use version_layout::records::record_refusal;
 use version_records::records::verdef_at;
 use version_records::records::vernaux_at;
 use version_records::records::verneed_at;
+use word::u16_at;
 ghost use mathlib.Core.Path.{_≡_};
 ghost use Prim.Native.Nat.{_≤_};
 ghost use lib.ListN.{length};

@@ -1,7 +1,7 @@
 // The index that a record names, by the record's place. A byte past the end counts as 0.
 use endian::kinds::Order;
-use endian::words::u16_at;
 use version::index::VersionIndex;
+use word::u16_at;
 ghost use mathlib.Core.Path.{_≡_};
 ghost use Rattle.version_layout.specs.Indices.{defIndex, needIndex};
 

@@ -1,7 +1,7 @@
 // A record of the version sections, by its places, and what a step to one answers.
 use endian::kinds::Order;
 use endian::refusals::Refusal;
-use endian::words::u16_at;
+use word::u16_at;
 ghost use mathlib.Core.Path.{_≡_};
 ghost use Rattle.version_layout.specs.Steps.{recordRefusal, auxRefusal, isBase};
 

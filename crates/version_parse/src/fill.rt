@@ -3,8 +3,6 @@
 use super::store::put_entry;
 use endian::kinds::Order;
 use endian::refusals::Refusal;
-use endian::words::u16_at;
-use endian::words::u32_at;
 use version_entries::entries::EntryStep;
 use version_entries::entries::def_entry;
 use version_entries::entries::need_entry;
@@ -16,6 +14,8 @@ use version_layout::records::record_refusal;
 use version_records::records::verdef_at;
 use version_records::records::vernaux_at;
 use version_records::records::verneed_at;
+use word::u16_at;
+use word::u32_at;
 ghost use mathlib.Core.Path.{_≡_};
 ghost use Prim.Native.Nat.{_≤_};
 ghost use lib.ListN.{length};

@@ -1,9 +1,6 @@
 // Replays the original's recorded answers about versions: records of 288 bytes on the standard input
 // (docs/COMPARISON.md). Prints how many there were and how many answers differ.
 use endian::kinds::Order;
-use endian::words::u8_at;
-use endian::words::u16_at;
-use endian::words::u32_at;
 use export::kinds::order_of;
 use libc::STDIN_FILENO;
 use libc::STDOUT_FILENO;
@@ -14,6 +11,9 @@ use version_match::Need;
 use version_match::matches;
 use version_parse::parse::Parsed;
 use version_parse::parse::parse;
+use word::u8_at;
+use word::u16_at;
+use word::u32_at;
 
 const RECORD: usize = 288;
 
