@@ -13,7 +13,7 @@ ghost use lib.Dec.{eqb};
 ghost use Prim.Native.Nat.{_-_, _%_, _<_, min};
 ghost use Rattle.gnu_table.specs.Header.{tableWith};
 ghost use Rattle.gnu_names.specs.Names.{hashIn};
-ghost use Rattle.gnu_rules.specs.Search.{firstFrom};
+ghost use Rattle.lookup.specs.Search.{firstFrom};
 ghost use Rattle.gnu_runs.specs.Runs.{mayBe, stray, leastMisplaced, wrongBucket};
 
 // The bucket of a symbol.
