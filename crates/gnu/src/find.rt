@@ -12,23 +12,17 @@ use gnu_table::header::HeaderAt;
 use gnu_table::header::Layout;
 use gnu_table::header::header;
 use lookup::Answer;
+use lookup::smaller;
 use symbol::table::SymbolCount;
 use symbol::table::symbol_count;
 use version_match::Need;
 ghost use mathlib.Core.Path.{_≡_};
 ghost use mathlib.Core.List.{[], _∷_};
-ghost use Prim.Native.Nat.{min};
 ghost use Rattle.endian.specs.Refusals.{anyLong};
 ghost use Rattle.lookup.specs.Wanted.{wanted};
 ghost use Rattle.gnu_table.specs.Header.{tableAt};
 ghost use Rattle.gnu.specs.Lookup.{lookup as lookupOf};
 ghost use Rattle.gnu.specs.Find.{gnuFind};
-
-fn smaller(a: u32, b: u32) -> u32
-    ensures { λ r. ⌜ r ≡ min a b ⌝ }
-{
-    if a <= b { a } else { b }
-}
 
 // Whether one of the parts that are only compared is too long.
 fn any_long(

@@ -34,7 +34,7 @@ use Rattle.gnu_rules.specs.declared.Checked.{Checked}
 use Rattle.gnu_rules.specs.declared.Checked.the-variants.{Accepted, Broken, Refused}
 use Rattle.gnu_rules.specs.Rules.{bucketOf, powerOfTwo, baseWithin, bloomCountPower, someBucket, shiftWithin, enoughValues, nameReadable, valueIsHash, bloomBitsSet, bucketRight, endsAtLast, whole, lowest, findings, longest, verdict, check, unlessRefused, gnuCheck}
 use Rattle.gnu_rules.proofs.Kept.{power-low, lowest-none}
-use Rattle.gnu_rules.specs.Search.{firstFrom}
+use Rattle.lookup.specs.Search.{firstFrom}
 use Rattle.gnu_rules.specs.HeaderRules.{firstBroken, brokenHeader}
 use Rattle.gnu_values.specs.Blooms.{hashPasses}
 use Rattle.gnu_values.proofs.Filtered.{bits-set}
@@ -42,7 +42,7 @@ use Rattle.gnu_runs.specs.Runs.{runStart, wrongBucket}
 use Rattle.gnu_ends.specs.Ends.{lastOfRun, endsRun, wrongEnd, chainStart, longestChain}
 use Rattle.gnu_check.specs.Verdicts.{Sound, fromNames, fromBuckets}
 use Rattle.gnu_check.proofs.Lasts.{last-of-run, longestRun, longest-run}
-use Rattle.gnu_rules.proofs.Searching.{first-some, first-none}
+use Rattle.lookup.proofs.Searching.{first-some, first-none}
 use Rattle.gnu_check.proofs.Wrong.{least-wrong}
 
 -- ---- G1 to G5

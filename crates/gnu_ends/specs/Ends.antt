@@ -16,7 +16,7 @@ use Rattle.endian.specs.declared.kinds.Order.{Order}
 use Rattle.lookup.specs.Pick.{from, largest}
 use Rattle.gnu_table.specs.Table.{Table, valueOf, odd}
 use Rattle.gnu_rules.specs.Rules.{bucketOf, inBucket}
-use Rattle.gnu_rules.specs.Search.{firstFrom}
+use Rattle.lookup.specs.Search.{firstFrom}
 use Rattle.gnu_names.specs.Names.{hashIn}
 
 unfoldable pub lastIn : Class → Order → (symbols strings : List ℕ) → (buckets count : ℕ) → ℕ → Bool

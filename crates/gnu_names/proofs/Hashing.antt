@@ -2,39 +2,33 @@
 --     hashFrom                            that hash
 --     hashFrom-start, -end, -step, -none  where it starts, at a zero, at another byte, past the bytes
 --     hashAt-long                         strings that are too long
---     name-at, name-none                  the name of a symbol: by its record, and where there is none
---     hashIn-at, hashIn-none              the hash of it
---     name-readable                       it can be read exactly if it starts below `readableEnd`
+--     hashIn-at, hashIn-none              the hash of a symbol's name: by its record, and where there is none
 -- Assumes nothing.
 use Prim.Native.Nat.{ℕ, suc, _+_, _≤_, _<_}
-use mathlib.Core.Path.{_≡_, refl, sym, ap, _∙_}
-use mathlib.Core.Bool.{Bool, true, false, cond, not}
+use mathlib.Core.Path.{_≡_, refl, ap}
+use mathlib.Core.Bool.{Bool, true, false, cond}
 use mathlib.Core.List.{List, [], _∷_, foldl}
-use mathlib.Core.Option.{none, Option·getD}
+use mathlib.Core.Option.{Option·getD}
 use native.Mathlib.Numerals.{add-one}
 use native.Mathlib.Omega.{arith}
-use lib.Dec.{ltb, leb·suc-suc}
+use lib.Dec.{leb·suc-suc}
 use lib.ListN.{length, getD, take, drop, drop-of-length-le}
 use lib.Seq.{drop-cons}
-use borrow.Author.Tests.{ne-eqb, lt-ltb, le-ltb, ltb-true, ltb-false}
+use borrow.Author.Tests.{ne-eqb, lt-ltb, le-ltb}
 use Rattle.endian.specs.declared.kinds.Class.{Class}
 use Rattle.endian.specs.declared.kinds.Order.{Order}
 use Rattle.endian.specs.declared.refusals.Refusal.{Refusal}
 use Rattle.endian.specs.First.{first}
 use Rattle.endian.specs.Refusals.{limit, noString}
 use Rattle.strings.specs.declared.StringAt.the-variants.{At, Refused}
-use Rattle.strings.specs.Strings.{isZero, readable, afterZero, stringAt}
-use Rattle.strings.proofs.Readable.{readable-below}
+use Rattle.strings.specs.Strings.{isZero, readable}
 use Rattle.symbol_entry.specs.declared.Symbol.{Symbol}
-use Rattle.symbol.specs.declared.table.SymbolAt.{SymbolAt}
 use Rattle.symbol.specs.declared.table.SymbolAt.the-variants.{At as Symbol·At, Refused as Symbol·Refused}
-use Rattle.symbol.specs.Table.{symbolAt, nameIn}
-use Rattle.symbol.proofs.Names.{symbolName-long, symbolName-fits}
+use Rattle.symbol.specs.Table.{symbolAt}
 use Rattle.name_hash.specs.Hash.{gnuStep, gnuHash}
-use Rattle.lookup.specs.Pick.{isNone}
-use Rattle.lookup.specs.Wanted.{bytesOf, nameOf, symbolIndex}
-use Rattle.lookup.proofs.Picking.{by-test}
-use Rattle.gnu_names.specs.Names.{hashAt, hashIn, readableIn, readableEnd, startsBelow}
+use Rattle.lookup.specs.Wanted.{bytesOf, symbolIndex}
+use Rattle.lookup.proofs.Named.{name-at, name-none}
+use Rattle.gnu_names.specs.Names.{hashAt, hashIn}
 
 unfoldable pub hashFrom : ℕ → List ℕ → ℕ
 hashFrom h rest = cond (readable rest) (foldl gnuStep h (take (first isZero rest) rest)) 5381
@@ -74,58 +68,12 @@ unfolding hashAt gnuHash
 hashAt-long s at long = simp (lt-ltb limit (length s) long)
 
 module _ (class : Class) (order : Order) (symbols strings : List ℕ) (i : ℕ) where
-  pub name-at : (entry : Symbol) → symbolAt class order symbols (symbolIndex i) ≡ Symbol·At entry
-      → nameOf class order symbols strings i ≡ bytesOf strings (stringAt strings (entry .name))
-  unfolding nameOf
-  name-at entry there =
-      by-test (ltb limit (length strings))
-      (λ long. ap (bytesOf strings) (symbolName-long class order symbols strings (symbolIndex i)
-      (ltb-true limit (length strings) long))
-      ∙ sym (rw long))
-      (λ short. ap (bytesOf strings)
-      (symbolName-fits class order symbols strings (symbolIndex i) (ltb-false limit (length strings) short)
-      ∙ ap (nameIn strings) there))
-
-  pub name-none : (r : Refusal) → symbolAt class order symbols (symbolIndex i) ≡ Symbol·Refused r
-      → nameOf class order symbols strings i ≡ none
-  unfolding nameOf
-  name-none r none-there =
-      by-test (ltb limit (length strings))
-      (λ long. ap (bytesOf strings) (symbolName-long class order symbols strings (symbolIndex i)
-      (ltb-true limit (length strings) long)))
-      (λ short. ap (bytesOf strings)
-      (symbolName-fits class order symbols strings (symbolIndex i) (ltb-false limit (length strings) short)
-      ∙ ap (nameIn strings) none-there))
-
   pub hashIn-at : (entry : Symbol) → symbolAt class order symbols (symbolIndex i) ≡ Symbol·At entry
       → hashIn class order symbols strings i ≡ hashAt strings (entry .name)
   unfolding hashIn hashAt
-  hashIn-at entry there = ap (λ o. gnuHash (Option·getD o [])) (name-at entry there)
+  hashIn-at entry there = ap (λ o. gnuHash (Option·getD o [])) (name-at class order symbols strings i entry there)
 
   pub hashIn-none : (r : Refusal) → symbolAt class order symbols (symbolIndex i) ≡ Symbol·Refused r
       → hashIn class order symbols strings i ≡ 5381
   unfolding hashIn gnuHash
-  hashIn-none r none-there = ap (λ o. gnuHash (Option·getD o [])) (name-none r none-there)
-
--- a string can be read exactly if it starts below `readableEnd`
-some-read : (strings : List ℕ) (at : ℕ)
-    → not (isNone (bytesOf strings (stringAt strings at))) ≡ ltb at (readableEnd strings)
-some-read strings at =
-    by-test (ltb limit (length strings)) (λ long. rw long (sym (le-ltb at 0 (omega arith))))
-    (λ short. rw short (by (readable (drop at strings)) ∙ readable-below strings at))
-  where
-    by : (t : Bool)
-        → not (isNone (bytesOf strings (cond t (At at (first isZero (drop at strings))) (Refused noString)))) ≡ t
-    by true = refl
-    by false = refl
-
-pub name-readable : (class : Class) (order : Order) (symbols strings : List ℕ) (i : ℕ)
-    → readableIn class order symbols strings i
-    ≡ startsBelow (readableEnd strings) (symbolAt class order symbols (symbolIndex i))
-name-readable class order symbols strings i = by (symbolAt class order symbols (symbolIndex i)) refl
-  where
-    by : (s : SymbolAt) → symbolAt class order symbols (symbolIndex i) ≡ s
-        → readableIn class order symbols strings i ≡ startsBelow (readableEnd strings) s
-    by (Symbol·At entry) e =
-        ap (λ o. not (isNone o)) (name-at class order symbols strings i entry e) ∙ some-read strings (entry .name)
-    by (Symbol·Refused r) e = ap (λ o. not (isNone o)) (name-none class order symbols strings i r e)
+  hashIn-none r none-there = ap (λ o. gnuHash (Option·getD o [])) (name-none class order symbols strings i r none-there)

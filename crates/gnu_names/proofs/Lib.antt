@@ -1,2 +1,2 @@
--- `Hashing`: the hash of a string from a place on, and of a symbol's name; whether that can be read.
+-- `Hashing`: the hash of a string from a place on, and of a symbol's name.
 mod Hashing

@@ -2,18 +2,12 @@
 use endian::kinds::Class;
 use endian::kinds::Order;
 use endian::refusals::LIMIT;
+use name_hash::gnu_step;
 use symbol::table::SymbolAt;
 use symbol::table::SymbolIndex;
 use symbol::table::symbol_at;
 ghost use mathlib.Core.Path.{_≡_};
-ghost use Rattle.name_hash.specs.Hash.{gnuStep};
 ghost use Rattle.gnu_names.specs.Names.{hashAt, hashIn};
-
-fn gnu_step(h: u32, b: u8) -> u32
-    ensures { λ r. ⌜ r ≡ gnuStep h b ⌝ }
-{
-    (((h as u64) * 33 + (b as u64)) % 0x1_0000_0000) as u32
-}
 
 // The hash of the string at an offset; of one that cannot be read, that of the empty name.
 fn hash_at(strings: &[u8], offset: u32) -> u32

@@ -1,3 +1,2 @@
-// The names of a GNU table's symbols, for the checker: their hash, and G6.
+// The GNU hash of a symbol's name, for the checker.
 pub mod hashes;
-pub mod names;

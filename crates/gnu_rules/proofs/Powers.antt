@@ -12,8 +12,8 @@ use lib.Dec.{eqb}
 use lib.Pow.{pow-lt}
 use Rattle.lookup.specs.Pick.{isNone}
 use Rattle.gnu_rules.specs.Rules.{powerOfTwo}
-use Rattle.gnu_rules.specs.Search.{firstFrom}
-use Rattle.gnu_rules.proofs.Searching.{first-some, first-none}
+use Rattle.lookup.specs.Search.{firstFrom}
+use Rattle.lookup.proofs.Searching.{first-some, first-none}
 
 module _ (n : ℕ) where
   abbrev pub isPower : ℕ → Bool

@@ -1,3 +1,2 @@
 pub mod HeaderRules
 pub mod Rules
-pub mod Search

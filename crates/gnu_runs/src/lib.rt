@@ -5,6 +5,7 @@ use endian::kinds::Order;
 use gnu_names::hashes::symbol_hash;
 use gnu_table::header::Layout;
 use gnu_table::words::word_of;
+use lookup::smaller;
 ghost use mathlib.Core.Option.{Option·getD};
 ghost use mathlib.Core.Path.{_≡_};
 ghost use mathlib.Core.Bool.{cond};
@@ -12,14 +13,8 @@ ghost use lib.Dec.{eqb};
 ghost use Prim.Native.Nat.{_-_, _%_, _<_, min};
 ghost use Rattle.gnu_table.specs.Header.{tableWith};
 ghost use Rattle.gnu_names.specs.Names.{hashIn};
-ghost use Rattle.gnu_rules.specs.Search.{firstFrom};
+ghost use Rattle.lookup.specs.Search.{firstFrom};
 ghost use Rattle.gnu_runs.specs.Runs.{mayBe, stray, leastMisplaced, wrongBucket};
-
-fn smaller(a: u32, b: u32) -> u32
-    ensures { λ r. ⌜ r ≡ min a b ⌝ }
-{
-    if a <= b { a } else { b }
-}
 
 // The bucket of a symbol.
 fn bucket_of(

@@ -8,7 +8,7 @@ use gnu_table::header::Layout;
 ghost use mathlib.Core.Bool.{not};
 ghost use mathlib.Core.Path.{_≡_};
 ghost use Rattle.gnu_table.specs.Header.{tableWith};
-ghost use Rattle.gnu_rules.specs.Search.{firstFrom};
+ghost use Rattle.lookup.specs.Search.{firstFrom};
 ghost use Rattle.gnu_values.specs.Blooms.{hashPasses};
 
 fn has_bits(

@@ -9,7 +9,7 @@ ghost use mathlib.Core.Path.{_≡_};
 ghost use Prim.Native.Nat.{_≤_};
 ghost use Rattle.gnu_table.specs.Header.{tableWith};
 ghost use Rattle.gnu_rules.specs.Rules.{valueIsHash};
-ghost use Rattle.gnu_rules.specs.Search.{firstFrom};
+ghost use Rattle.lookup.specs.Search.{firstFrom};
 
 fn value_is_right(
     class: Class,

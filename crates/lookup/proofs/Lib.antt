@@ -1,5 +1,6 @@
--- `Picking` and `Distinct` are for whoever cites this crate: laws of lists of numbers, and what a wanted symbol has.
--- `Named`: the name of a symbol, by its record.
+-- All are for whoever cites this crate. `Picking`: laws of lists of numbers. `Distinct`: what a wanted symbol has. `Named`: the
+-- name of a symbol, by its record. `Searching`: a loop that looks for the first that passes.
 pub mod Distinct
-mod Named
+pub mod Named
 pub mod Picking
+pub mod Searching

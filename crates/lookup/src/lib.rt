@@ -1,5 +1,5 @@
-// What the lookups of both hash tables share: their answer, and whether a symbol is the one that is
-// asked for.
+// What the lookups of both hash tables share: their answer, whether a symbol is the one that is
+// asked for, and the smaller of two numbers.
 use endian::kinds::Class;
 use endian::kinds::Order;
 use endian::refusals::Refusal;
@@ -10,6 +10,7 @@ use symbol::table::symbol_at;
 use version_match::Need;
 use version_match::matches;
 ghost use mathlib.Core.Path.{_≡_};
+ghost use Prim.Native.Nat.{min};
 ghost use Rattle.lookup.specs.Wanted.{Asked, nameOf, isNamed, wantedIn};
 
 // A symbol and the probes that were made, the probes alone where there is none, or a refusal.
@@ -70,4 +71,10 @@ pub fn is_wanted(
         need,
         need_name,
     )
+}
+
+pub fn smaller(a: u32, b: u32) -> u32
+    ensures { λ r. ⌜ r ≡ min a b ⌝ }
+{
+    if a <= b { a } else { b }
 }

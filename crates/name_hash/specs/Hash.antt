@@ -1,4 +1,5 @@
 -- The two hashes of a name, from its bytes. Assumes nothing.
+--     gnuStep    one byte more in the GNU hash
 --     gnuHash    the GNU convention: from 5381, times 33 plus the byte, modulo 2 ^ 32
 --     sysvHash   the gABI's `elf_hash`, on words of 32 bits
 --     hashOf     either of them as an answer: a name past the limit is refused

@@ -1,4 +1,4 @@
-// The two hashes of a symbol's name.
+// The two hashes of a symbol's name, and the step of the GNU one.
 use endian::refusals::LIMIT;
 use endian::refusals::Refusal;
 use endian::refusals::TOO_LONG;
@@ -11,7 +11,8 @@ pub enum NameHash {
     Refused(Refusal),
 }
 
-fn gnu_step(h: u32, b: u8) -> u32
+// The GNU hash after one byte more.
+pub fn gnu_step(h: u32, b: u8) -> u32
     ensures { λ r. ⌜ r ≡ gnuStep h b ⌝ }
 {
     (((h as u64) * 33 + (b as u64)) % 0x1_0000_0000) as u32

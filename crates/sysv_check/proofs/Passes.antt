@@ -19,21 +19,22 @@ use Rattle.endian.specs.Refusals.{limit, tooLong}
 use Rattle.endian.specs.Word.{wordAt}
 use Rattle.symbol.specs.declared.table.SymbolCount.{SymbolCount}
 use Rattle.symbol.specs.Table.{symbolSize, symbolCount}
-use Rattle.lookup.specs.Pick.{from, isNone}
+use Rattle.lookup.specs.Search.{firstFrom}
 use Rattle.lookup.specs.Wanted.{nameOf}
 use Rattle.lookup.proofs.Picking.{and-left, and-right}
+use Rattle.readable_names.specs.Readable.{readableIn}
 use Rattle.sysv_header.specs.declared.header.Header.{Header}
 use Rattle.sysv_header.specs.declared.header.HeaderAt.{HeaderAt}
 use Rattle.sysv_header.specs.Header.{fault, headerOf, headerAt, headerUnless}
 use Rattle.sysv.specs.Layout.{tableOf}
 use Rattle.sysv.specs.Table.{Table}
 use Rattle.sysv_check.specs.declared.table.Checked.{Checked}
-use Rattle.sysv_check.specs.Count.{every}
 use Rattle.sysv_check.specs.Rules.{firstGlobal, t1, t2, t3, check}
 use Rattle.sysv_chains.specs.Pass.{hashOf, mayStand, allSpent}
 use Rattle.sysv_check.specs.Pass.{shaped}
 use Rattle.sysv_check.specs.Check.{unlessRefused, sysvCheck}
 use Rattle.sysv_check.proofs.Counted.{counted}
+use Rattle.sysv_check.proofs.Readings.{every-searched, every-missed}
 
 pub shaped-facts : (buckets chains count low : ℕ) → shaped buckets chains count low ≡ true → (1 ≤ buckets) × (low ≤ count)
 shaped-facts buckets chains count low h =
@@ -52,8 +53,8 @@ module _ (class : Class) (order : Order) (table symbols strings : List ℕ) (low
   abbrev shapes : Bool
   shapes = shaped (header .«bucket_count») (header .«chain_count») count low
 
-  abbrev reads : Bool
-  reads = every (λ i. not (isNone (nameOf class order symbols strings i))) (from low (count - low))
+  abbrev unread : ℕ
+  unread = firstFrom (λ i. not (readableIn class order symbols strings i)) low count
 
   abbrev counts : Bool
   counts =
@@ -64,25 +65,32 @@ module _ (class : Class) (order : Order) (table symbols strings : List ℕ) (low
   shape-is : t1 whole low ≡ shapes
   shape-is = rw (own, many)
 
-  names-is : t2 whole low ≡ reads
-  names-is = rw many
-
   chains-is : t1 whole low ≡ true → t3 whole low ≡ counts
   chains-is h = rw (own, many) (sym (counted whole low h))
 
   pub check-1 : shapes ≡ false → check whole low ≡ Checked.Broken 1
   check-1 e = rw (shape-is ∙ e)
 
-  module _ (one : shapes ≡ true) where
-    pub check-2 : reads ≡ false → check whole low ≡ Checked.Broken 2
-    check-2 e = rw (shape-is ∙ one, names-is ∙ e)
+  module _ (one : shapes ≡ true) (lowest : ℕ) (searched : lowest ≡ unread) where
+    within : low ≤ count
+    within = shaped-facts (header .«bucket_count») (header .«chain_count») count low one .1
 
-    module _ (two : reads ≡ true) where
+    names-kept : lowest ≡ count → t2 whole low ≡ true
+    names-kept same = rw (← many) (every-searched (readableIn class order symbols strings) low count lowest within searched same)
+
+    names-broken : ¬ (lowest ≡ count) → t2 whole low ≡ false
+    names-broken differ =
+        rw (← many) (every-missed (readableIn class order symbols strings) low count lowest within searched differ)
+
+    pub check-2 : ¬ (lowest ≡ count) → check whole low ≡ Checked.Broken 2
+    check-2 differ = rw (shape-is ∙ one, names-broken differ)
+
+    module _ (same : lowest ≡ count) where
       pub check-3 : counts ≡ false → check whole low ≡ Checked.Broken 3
-      check-3 e = rw (shape-is ∙ one, names-is ∙ two, chains-is (shape-is ∙ one) ∙ e)
+      check-3 e = rw (shape-is ∙ one, names-kept same, chains-is (shape-is ∙ one) ∙ e)
 
       pub check-all : counts ≡ true → check whole low ≡ Checked.Accepted
-      check-all e = rw (shape-is ∙ one, names-is ∙ two, chains-is (shape-is ∙ one) ∙ e)
+      check-all e = rw (shape-is ∙ one, names-kept same, chains-is (shape-is ∙ one) ∙ e)
 
 -- ---- the refusals
 

@@ -1,3 +1,2 @@
 // The checker of SysV hash tables: the rules T1 to T3, in one pass over names and chains.
-mod names;
 pub mod table;

@@ -1,10 +1,10 @@
 // The checker: its refusals, then its rules in order.
-use super::names::names_readable;
 use endian::kinds::Class;
 use endian::kinds::Order;
 use endian::refusals::LIMIT;
 use endian::refusals::Refusal;
 use endian::refusals::TOO_LONG;
+use readable_names::lowest_unreadable;
 use symbol::table::SymbolCount;
 use symbol::table::symbol_count;
 use sysv_chains::chains::chains_hold;
@@ -12,9 +12,8 @@ use sysv_header::header::Header;
 use sysv_header::header::HeaderAt;
 use sysv_header::header::header_of;
 ghost use mathlib.Core.Path.{_≡_};
-ghost use Prim.Native.Nat.{_/_, _≤_};
+ghost use Prim.Native.Nat.{_/_};
 ghost use lib.ListN.{length};
-ghost use Rattle.endian.specs.Refusals.{limit};
 ghost use Rattle.symbol.specs.Table.{symbolSize};
 ghost use Rattle.sysv_header.specs.Header.{headerOf};
 ghost use Rattle.sysv.specs.Layout.{tableOf};
@@ -59,8 +58,7 @@ fn check_rules(
     count: u32,
     low: u32,
 ) -> Checked
-    requires { ⌜ (header ≡ headerOf order (now table)) × (count ≡ length (now symbols) / symbolSize class)
-        × (length (now strings) ≤ limit) ⌝ }
+    requires { ⌜ (header ≡ headerOf order (now table)) × (count ≡ length (now symbols) / symbolSize class) ⌝ }
     ensures { λ r. ⌜ r
         ≡ checkOf (tableOf order (now (table .entry)) class (now (symbols .entry)) (now (strings .entry))) low ⌝ }
 {
@@ -68,7 +66,7 @@ fn check_rules(
     if !has_shape(buckets, header.chain_count, count, low) {
         return Checked::Broken(1);
     }
-    if !names_readable(class, order, symbols, strings, low, count) {
+    if lowest_unreadable(class, order, symbols, strings, low, count) != count {
         return Checked::Broken(2);
     }
     if !chains_hold(

@@ -12,8 +12,8 @@ use Rattle.endian.specs.declared.kinds.Order.{Order}
 use Rattle.gnu_table.specs.declared.header.Layout.{Layout}
 use Rattle.gnu_table.specs.Header.{tableWith}
 use Rattle.gnu_ends.specs.Ends.{endsRun, wrongEnd}
-use Rattle.gnu_rules.specs.Search.{firstFrom}
-use Rattle.gnu_rules.proofs.Searching.{Searching, searching-start, searching-next, searching-here, searching-end}
+use Rattle.lookup.specs.Search.{firstFrom}
+use Rattle.lookup.proofs.Searching.{Searching, searching-start, searching-next, searching-here, searching-end}
 use Rattle.gnu_ends.proofs.lowest_wrong_end.Statement.{statement}
 use Rattle.gnu_ends.proofs.lowest_wrong_end.Tie as tie
 

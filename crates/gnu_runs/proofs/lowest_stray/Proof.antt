@@ -5,7 +5,7 @@ use mathlib.Core.Path.{sym, _∙_}
 use borrow.Author.Needs.{needs}
 use Rattle.gnu_table.specs.Header.{tableWith}
 use Rattle.gnu_runs.specs.Runs.{stray}
-use Rattle.gnu_rules.proofs.Searching.{Searching, searching-start, searching-next, searching-here, searching-end}
+use Rattle.lookup.proofs.Searching.{Searching, searching-start, searching-next, searching-here, searching-end}
 use Rattle.gnu_runs.proofs.lowest_stray.Statement.{statement}
 use Rattle.gnu_runs.proofs.lowest_stray.Tie as tie
 

@@ -8,10 +8,10 @@ use borrow.Author.Needs.{needs}
 use borrow.Author.Tests.{eq-eqb, ne-eqb}
 use Rattle.lookup.specs.Pick.{from, firstOf}
 use Rattle.gnu_table.specs.Table.{Table}
-use Rattle.gnu_rules.specs.Search.{firstFrom}
+use Rattle.lookup.specs.Search.{firstFrom}
 use Rattle.gnu_table.specs.Header.{tableWith}
 use Rattle.gnu_runs.specs.Runs.{stray, leastMisplaced, wrongBucket}
-use Rattle.gnu_rules.proofs.Searching.{first-le}
+use Rattle.lookup.proofs.Searching.{first-le}
 use Rattle.gnu_runs.proofs.Turns.{least-bound, lesser-both}
 use Rattle.gnu_runs.proofs.lowest_wrong_bucket.Statement.{statement}
 use Rattle.gnu_runs.proofs.lowest_wrong_bucket.Tie as tie

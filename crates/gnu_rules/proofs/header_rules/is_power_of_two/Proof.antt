@@ -6,7 +6,7 @@ use native.Mathlib.Omega.{arith}
 use borrow.Author.Needs.{needs}
 use borrow.Author.Tests.{eq-eqb, ne-eqb}
 use Rattle.gnu_rules.proofs.Powers.{isPower, power-found, power-none, shifted}
-use Rattle.gnu_rules.proofs.Searching.{Searching, searching-start, searching-next, searching-here, searching-end}
+use Rattle.lookup.proofs.Searching.{Searching, searching-start, searching-next, searching-here, searching-end}
 use Rattle.gnu_rules.proofs.header_rules.is_power_of_two.Statement.{statement}
 use Rattle.gnu_rules.proofs.header_rules.is_power_of_two.Tie as tie
 

@@ -12,7 +12,7 @@ use Rattle.gnu_table.specs.declared.header.Layout.{Layout}
 use Rattle.gnu_table.specs.Header.{tableWith}
 use Rattle.gnu_table.specs.Table.{bloomFirst, bloomSecond, bloomFilter}
 use Rattle.gnu_rules.specs.Rules.{hashOf}
-use Rattle.gnu_rules.proofs.Searching.{Searching, searching-start, searching-next, searching-here, searching-end}
+use Rattle.lookup.proofs.Searching.{Searching, searching-start, searching-next, searching-here, searching-end}
 use Rattle.gnu_values.specs.Blooms.{hashPasses}
 use Rattle.gnu_values.proofs.blooms.lowest_unset.Statement.{statement}
 use Rattle.gnu_values.proofs.blooms.lowest_unset.Tie as tie

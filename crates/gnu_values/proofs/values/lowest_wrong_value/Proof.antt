@@ -11,7 +11,7 @@ use Rattle.endian.specs.declared.kinds.Order.{Order}
 use Rattle.gnu_table.specs.declared.header.Layout.{Layout}
 use Rattle.gnu_rules.specs.Rules.{hashOf, valueIsHash}
 use Rattle.gnu_table.specs.Header.{tableWith}
-use Rattle.gnu_rules.proofs.Searching.{Searching, searching-start, searching-next, searching-here, searching-end}
+use Rattle.lookup.proofs.Searching.{Searching, searching-start, searching-next, searching-here, searching-end}
 use Rattle.gnu_values.proofs.values.lowest_wrong_value.Statement.{statement}
 use Rattle.gnu_values.proofs.values.lowest_wrong_value.Tie as tie
 

@@ -72,7 +72,6 @@ check-rules-requires c κs =
       header-read (start .args .order) (start .args .table .now) _ (sym (headed .header-of .ensures) ∙ c .before .header .given .1) .2,
       count-read (start .args .class) (start .args .symbols .now) _
           (sym (counted .symbol-count .ensures) ∙ headed .before .before .count .given .1),
-      fits .if1 .left,
     )
 
 returns-2 : tie.Need-returns-2

@@ -16,8 +16,8 @@ returns c =
     (start .args .strings .now) (start .args .low) (start .args .header) (start .args .count) (start .pre .0) (start .pre .1)
     (sym (c .before .has-shape .ensures) ∙ not-true _ (c .if1 .taken)))
 
-names-readable-requires : tie.Need-names-readable-requires
-names-readable-requires c κs = search needs
+lowest-unreadable-requires : tie.Need-lowest-unreadable-requires
+lowest-unreadable-requires c κs = search needs
 
 returns-2 : tie.Need-returns-2
 returns-2 c =
@@ -26,7 +26,7 @@ returns-2 c =
     sym (check-2 (start .args .class) (start .args .order) (start .args .table .now) (start .args .symbols .now)
     (start .args .strings .now) (start .args .low) (start .args .header) (start .args .count) (start .pre .0) (start .pre .1)
     (sym (shaped .before .has-shape .ensures) ∙ not-false _ (shaped .if1 .left))
-    (sym (c .before .names-readable .ensures) ∙ not-true _ (c .if2 .taken)))
+    (c .before .lowest-unreadable .result) (c .before .lowest-unreadable .ensures) (c .if2 .taken))
 
 sub-chains-hold : tie.Need-sub-chains-hold
 sub-chains-hold c =
@@ -46,7 +46,7 @@ returns-3 c =
     sym (check-3 (start .args .class) (start .args .order) (start .args .table .now) (start .args .symbols .now)
     (start .args .strings .now) (start .args .low) (start .args .header) (start .args .count) (start .pre .0) (start .pre .1)
     (sym (shaped .before .has-shape .ensures) ∙ not-false _ (shaped .if1 .left))
-    (sym (readable .before .names-readable .ensures) ∙ not-false _ (readable .if2 .left))
+    (readable .before .lowest-unreadable .result) (readable .before .lowest-unreadable .ensures) (readable .if2 .left)
     (sym (c .before .chains-hold .ensures) ∙ not-true _ (c .if3 .taken)))
 
 returns-4 : tie.Need-returns-4
@@ -57,7 +57,7 @@ returns-4 c =
     sym (check-all (start .args .class) (start .args .order) (start .args .table .now) (start .args .symbols .now)
     (start .args .strings .now) (start .args .low) (start .args .header) (start .args .count) (start .pre .0) (start .pre .1)
     (sym (shaped .before .has-shape .ensures) ∙ not-false _ (shaped .if1 .left))
-    (sym (readable .before .names-readable .ensures) ∙ not-false _ (readable .if2 .left))
+    (readable .before .lowest-unreadable .result) (readable .before .lowest-unreadable .ensures) (readable .if2 .left)
     (sym (c .before .chains-hold .ensures) ∙ not-false _ (c .if3 .left)))
 
 pub check-rules-spec : {M : Type 1} → statement M
@@ -66,7 +66,7 @@ check-rules-spec =
     (tie.spec
     has-shape-requires
     returns
-    names-readable-requires
+    lowest-unreadable-requires
     returns-2
     sub-chains-hold
     chains-hold-requires

@@ -1,4 +1,4 @@
--- `gnu_names::names::lowest_unreadable` meets its contract. The invariant: the first from here on is the first of all. The
+-- `readable_names::lowest_unreadable` meets its contract. The invariant: the first from here on is the first of all. The
 -- measure is what is left of the symbols. Assumes nothing.
 use Prim.Native.Nat.{ℕ, _-_}
 use mathlib.Core.Path.{_≡_, sym, ap, _∙_}
@@ -9,20 +9,20 @@ use Rattle.endian.specs.declared.kinds.Class.{Class}
 use Rattle.endian.specs.declared.kinds.Order.{Order}
 use Rattle.symbol.specs.Table.{symbolAt}
 use Rattle.lookup.specs.Wanted.{symbolIndex}
-use Rattle.gnu_names.specs.Names.{readableIn, startsBelow}
-use Rattle.gnu_names.proofs.Hashing.{name-readable}
-use Rattle.gnu_rules.proofs.Searching.{Searching, searching-start, searching-next, searching-here, searching-end}
-use Rattle.gnu_names.proofs.names.lowest_unreadable.Statement.{statement}
-use Rattle.gnu_names.proofs.names.lowest_unreadable.Tie as tie
+use Rattle.readable_names.specs.Readable.{readableIn, startsBelow}
+use Rattle.readable_names.proofs.Reading.{name-readable}
+use Rattle.lookup.proofs.Searching.{Searching, searching-start, searching-next, searching-here, searching-end}
+use Rattle.readable_names.proofs.lowest_unreadable.Statement.{statement}
+use Rattle.readable_names.proofs.lowest_unreadable.Tie as tie
 
 abbrev broken : Class → Order → (symbols strings : List ℕ) → ℕ → Bool
 broken class order symbols strings i = not (readableIn class order symbols strings i)
 
 abbrev Inv-loop : tie.InvT-loop
-Inv-loop class order symbols strings base count end i₀ i = Searching (broken class order symbols strings) base count i
+Inv-loop class order symbols strings low count end i₀ i = Searching (broken class order symbols strings) low count i
 
 abbrev μ-loop : tie.MeasureT-loop
-μ-loop class order symbols strings base count end i₀ i = count - i
+μ-loop class order symbols strings low count end i₀ i = count - i
 
 readable-end-requires : tie.Need-readable-end-requires Inv-loop μ-loop
 readable-end-requires c κs = search needs

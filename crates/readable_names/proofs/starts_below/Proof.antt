@@ -1,9 +1,9 @@
--- `gnu_names::names::starts_below` meets its contract. Each arm is told what `symbol_at` answered. Assumes nothing.
+-- `readable_names::starts_below` meets its contract. Each arm is told what `symbol_at` answered. Assumes nothing.
 use mathlib.Core.Path.{sym, ap, _∙_}
 use borrow.Author.Needs.{needs}
-use Rattle.gnu_names.specs.Names.{startsBelow}
-use Rattle.gnu_names.proofs.names.starts_below.Statement.{statement}
-use Rattle.gnu_names.proofs.names.starts_below.Tie as tie
+use Rattle.readable_names.specs.Readable.{startsBelow}
+use Rattle.readable_names.proofs.starts_below.Statement.{statement}
+use Rattle.readable_names.proofs.starts_below.Tie as tie
 
 symbol-at-requires : tie.Need-symbol-at-requires
 symbol-at-requires c κs = search needs

@@ -1,8 +1,8 @@
--- `gnu_names::names::readable_end` meets its contract: each answer is the one that the test picks. Assumes nothing.
+-- `readable_names::readable_end` meets its contract: each answer is the one that the test picks. Assumes nothing.
 use borrow.Author.Needs.{needs}
 use borrow.Author.Tests.{lt-ltb, le-ltb}
-use Rattle.gnu_names.proofs.names.readable_end.Statement.{statement}
-use Rattle.gnu_names.proofs.names.readable_end.Tie as tie
+use Rattle.readable_names.proofs.readable_end.Statement.{statement}
+use Rattle.readable_names.proofs.readable_end.Tie as tie
 
 returns : tie.Need-returns
 returns c = rw (lt-ltb _ _ (c .if1 .taken))

@@ -1,4 +1,4 @@
-// G6: each hashed symbol's name can be read.
+// Whether the names of symbols can be read: G6 of the GNU checker and T2 of the SysV checker.
 use endian::kinds::Class;
 use endian::kinds::Order;
 use endian::refusals::LIMIT;
@@ -9,9 +9,9 @@ use symbol::table::symbol_at;
 ghost use mathlib.Core.Bool.{not};
 ghost use mathlib.Core.Path.{_≡_};
 ghost use Rattle.symbol.specs.Table.{symbolAt};
+ghost use Rattle.lookup.specs.Search.{firstFrom};
 ghost use Rattle.lookup.specs.Wanted.{symbolIndex};
-ghost use Rattle.gnu_rules.specs.Search.{firstFrom};
-ghost use Rattle.gnu_names.specs.Names.{readableIn, readableEnd, startsBelow};
+ghost use Rattle.readable_names.specs.Readable.{readableIn, readableEnd, startsBelow};
 
 // The place before which a string that can be read starts: after the last zero, or 0 in strings
 // that are too long.
@@ -34,21 +34,22 @@ fn starts_below(class: Class, order: Order, symbols: &[u8], end: usize, i: u32) 
     }
 }
 
-// The lowest symbol from `base` on whose name cannot be read, or `count`. The strings' last zero is
-// looked for once: a name can be read exactly if it starts before the end of that string.
+// The lowest symbol from `low` on and below `count` whose name cannot be read, or `count` where there
+// is none. The strings' last zero is looked for once: a name can be read exactly if it starts before
+// the end of that string.
 pub fn lowest_unreadable(
     class: Class,
     order: Order,
     symbols: &[u8],
     strings: &[u8],
-    base: u32,
+    low: u32,
     count: u32,
 ) -> u32
     ensures { λ r. ⌜ r
-        ≡ firstFrom (λ i. not (readableIn class order (now (symbols .entry)) (now (strings .entry)) i)) base count ⌝ }
+        ≡ firstFrom (λ i. not (readableIn class order (now (symbols .entry)) (now (strings .entry)) i)) low count ⌝ }
 {
     let end = readable_end(strings);
-    let mut i = base;
+    let mut i = low;
     while i < count {
         if !starts_below(class, order, symbols, end, i) {
             return i;

@@ -1,0 +1,2 @@
+-- `Reading`: a name can be read exactly if it starts below `readableEnd`.
+mod Reading
