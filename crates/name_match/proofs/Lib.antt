@@ -1,2 +1,2 @@
 -- `Comparing`: the comparison of a name with the bytes from a place on.
-pub mod Comparing
+mod Comparing
