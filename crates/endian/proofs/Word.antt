@@ -2,8 +2,11 @@
 --     word-byte    one byte
 --     word-join    a word of m + n bytes is its first m joined with its last n
 --     word-bytes   two bytes
---     word-lt      it fits its bytes
 --     word-past    a word at or past the end is 0
+--     word-lt      it fits its bytes
+--     word-more    a little word: its first byte, and the word after it
+--     word-under   it fits more bytes too
+--     word-enough  it is the word of its first bytes where the others are past the end
 use Prim.Native.Nat.{ℕ, zero, suc, _+_, _*_, _^_, _≤_, _<_}
 use mathlib.Core.Path.{_≡_, refl, _∙_}
 use mathlib.Core.List.{List}
