@@ -1,2 +1,2 @@
-// The checker of SysV hash tables: the rules T1 to T3, in one pass over names and chains.
+// The checker of SysV hash tables: the rules T1 to T3, in order.
 pub mod table;
