@@ -19,28 +19,28 @@ const RECORDS: usize = 4000;
 pub fn write(folder: &Path, seed: u64) {
     let mut random = Random::new(seed);
     let strings: Vec<u8> = (0..RECORDS).flat_map(|_| string(&mut random)).collect();
-    std::fs::write(folder.join("strings_replay/stdin"), strings).expect("strings_replay");
+    std::fs::write(folder.join("replay_strings/stdin"), strings).expect("replay_strings");
     let symbols: Vec<u8> = (0..RECORDS).flat_map(|_| symbol(&mut random)).collect();
-    std::fs::write(folder.join("symbol_replay/stdin"), symbols).expect("symbol_replay");
+    std::fs::write(folder.join("replay_symbols/stdin"), symbols).expect("replay_symbols");
     let notes: Vec<u8> = (0..RECORDS)
         .flat_map(|turn| match turn % 4 {
             0 => property(&mut random),
             _ => note(&mut random),
         })
         .collect();
-    std::fs::write(folder.join("note_replay/stdin"), notes).expect("note_replay");
+    std::fs::write(folder.join("replay_notes/stdin"), notes).expect("replay_notes");
     let versions: Vec<u8> = (0..RECORDS / 2)
         .flat_map(|_| version(&mut random))
         .collect();
-    std::fs::write(folder.join("version_replay/stdin"), versions).expect("version_replay");
+    std::fs::write(folder.join("replay_versions/stdin"), versions).expect("replay_versions");
     let segments: Vec<u8> = (0..RECORDS / 2)
         .flat_map(|_| segment(&mut random))
         .collect();
-    std::fs::write(folder.join("segment_replay/stdin"), segments).expect("segment_replay");
+    std::fs::write(folder.join("replay_segments/stdin"), segments).expect("replay_segments");
     let lookups = record_tables::lookups(&mut random);
-    std::fs::write(folder.join("lookup_replay/stdin"), lookups).expect("lookup_replay");
+    std::fs::write(folder.join("replay_lookups/stdin"), lookups).expect("replay_lookups");
     let checks = record_tables::checks(&mut random);
-    std::fs::write(folder.join("check_replay/stdin"), checks).expect("check_replay");
+    std::fs::write(folder.join("replay_checks/stdin"), checks).expect("replay_checks");
 }
 
 pub fn padded(bytes: &[u8], length: usize) -> Vec<u8> {

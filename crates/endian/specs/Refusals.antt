@@ -1,11 +1,13 @@
 -- The size limit, and the refusals by their numbers, in the order of document 01's table, "Refusals".
 --     limit, anyLong    the most bytes that a lent part may have, and whether one of several has more
 --     refusal           the refusal of a number
+--     unlessRefused     the refusal, where there is one, or else the answer
 --     refusals          all of them, each under its name
 -- Assumes nothing.
 use Prim.Native.Nat.{ℕ}
 use mathlib.Core.Bool.{Bool, true, false, cond}
 use mathlib.Core.List.{List, [], _∷_}
+use mathlib.Core.Option.{Option, some, none}
 use lib.Dec.{ltb}
 use lib.ListN.{length}
 use Rattle.endian.specs.declared.refusals.Refusal.{Refusal}
@@ -19,6 +21,10 @@ anyLong (part ∷ parts) = cond (ltb limit (length part)) true (anyLong parts)
 
 abbrev pub refusal : ℕ → Refusal
 refusal n = record { 0 = n }
+
+abbrev pub unlessRefused : {A : Type 0} → (Refusal → A) → Option Refusal → A → A
+unlessRefused refused none answer = answer
+unlessRefused refused (some r) answer = refused r
 
 -- a part is too long
 abbrev pub tooLong : Refusal
@@ -168,6 +174,10 @@ noString = refusal 36
 abbrev pub noSymbol : Refusal
 noSymbol = refusal 37
 
+-- a class or a byte order that C passes and that is none; not document 01's
+abbrev pub unknownKind : Refusal
+unknownKind = refusal 39
+
 abbrev pub refusals : List Refusal
 refusals =
     tooLong ∷
@@ -207,4 +217,5 @@ refusals =
     badNotePlace ∷
     noString ∷
     noSymbol ∷
+    unknownKind ∷
     []

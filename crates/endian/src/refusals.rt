@@ -1,4 +1,4 @@
-// The size limit, and the refusals by their numbers in document 01.
+// The size limit, and the refusals by their numbers: document 01's, and our own.
 ghost use mathlib.Core.Path.{_≡_};
 ghost use Rattle.endian.specs.Refusals.{refusals};
 
@@ -82,8 +82,11 @@ pub const NO_STRING: Refusal = Refusal(36);
 
 pub const NO_SYMBOL: Refusal = Refusal(37);
 
-// All of them, in the order of document 01: its promise ties each constant to its name in specs/.
-fn in_order() -> [Refusal; 37]
+// Not document 01's: a class or a byte order that C passes and that is none.
+pub const UNKNOWN_KIND: Refusal = Refusal(39);
+
+// All of them, in the order of their numbers: its promise ties each constant to its name in specs/.
+fn in_order() -> [Refusal; 38]
     ensures { λ r. ⌜ r ≡ refusals ⌝ }
 {
     [
@@ -124,5 +127,6 @@ fn in_order() -> [Refusal; 37]
         BAD_NOTE_PLACE,
         NO_STRING,
         NO_SYMBOL,
+        UNKNOWN_KIND,
     ]
 }

@@ -36,10 +36,10 @@ use Rattle.gnu_rules.specs.Rules.{bucketOf, powerOfTwo, baseWithin, bloomCountP
 use Rattle.gnu_rules.proofs.Kept.{power-low, lowest-none}
 use Rattle.lookup.specs.Search.{firstFrom}
 use Rattle.gnu_rules.specs.HeaderRules.{firstBroken, brokenHeader}
-use Rattle.gnu_values.specs.Blooms.{hashPasses}
-use Rattle.gnu_values.proofs.Filtered.{bits-set}
-use Rattle.gnu_runs.specs.Runs.{runStart, wrongBucket}
-use Rattle.gnu_ends.specs.Ends.{lastOfRun, endsRun, wrongEnd, chainStart, longestChain}
+use Rattle.gnu_check_values.specs.Blooms.{hashPasses}
+use Rattle.gnu_check_values.proofs.Filtered.{bits-set}
+use Rattle.gnu_check_buckets.specs.Runs.{runStart, wrongBucket}
+use Rattle.gnu_check_ends.specs.Ends.{lastOfRun, endsRun, wrongEnd, chainStart, longestChain}
 use Rattle.gnu_check.specs.Verdicts.{Sound, fromNames, fromBuckets}
 use Rattle.gnu_check.proofs.Lasts.{last-of-run, longestRun, longest-run}
 use Rattle.lookup.proofs.Searching.{first-some, first-none}

@@ -15,8 +15,8 @@ use borrow.Author.Tests.{eqb-true, eq-eqb, ltb-true, ltb-false, lt-ltb}
 use Rattle.lookup.specs.Pick.{from, largest}
 use Rattle.gnu_table.specs.Table.{Table, hashed}
 use Rattle.gnu_rules.specs.Rules.{hashOf, bucketOf, inBucket, members, isLast, holds, longest, bucketRight}
-use Rattle.gnu_runs.specs.Runs.{runStart}
-use Rattle.gnu_ends.specs.Ends.{lastOfRun}
+use Rattle.gnu_check_buckets.specs.Runs.{runStart}
+use Rattle.gnu_check_ends.specs.Ends.{lastOfRun}
 use Rattle.lookup.proofs.Picking.{all-from, length-from, largest-le, largest-upper, by-test, and-left, and-right}
 use Rattle.gnu_rules.proofs.Members.{holds-run, no-member, inside, outside, last, not-last}
 use Rattle.gnu_check.proofs.Starts.{kept-right}

@@ -15,7 +15,7 @@ use native.Mathlib.Nat.{min-eq-left, min-eq-right}
 use lib.Dec.{leb}
 use borrow.Author.Tests.{leb-true, leb-false}
 use Rattle.lookup.specs.Pick.{from, firstOf}
-use Rattle.gnu_runs.specs.Runs.{lesser}
+use Rattle.gnu_check_buckets.specs.Runs.{lesser}
 use Rattle.lookup.proofs.Picking.{from-all, none-firstOf, firstOf-lowest, by-test}
 
 abbrev pub Least : (ℕ → Type 0) → Option ℕ → Type 0

@@ -9,7 +9,7 @@ use borrow.Author.Tests.{leb-true, ltb-true, eqb-true, eqb-false, eq-eqb}
 use Rattle.lookup.proofs.Picking.{by-test, and-left, and-right}
 use Rattle.gnu_table.specs.Table.{Table, valueOf}
 use Rattle.gnu_rules.specs.Rules.{hashOf, bucketOf, inBucket, valueIsHash}
-use Rattle.gnu_runs.specs.Runs.{mayBe, begins, stray}
+use Rattle.gnu_check_buckets.specs.Runs.{mayBe, begins, stray}
 use Rattle.gnu_check.proofs.Starts.{plainBegins, plainStray}
 
 -- a symbol whose value rules a bucket out is of another

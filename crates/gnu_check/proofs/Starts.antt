@@ -19,7 +19,7 @@ use borrow.Author.Tests.{leb-true, ltb-true, eqb-true, eqb-false, eq-eqb, ne-eqb
 use Rattle.lookup.specs.Pick.{from, select}
 use Rattle.gnu_table.specs.Table.{Table}
 use Rattle.gnu_rules.specs.Rules.{bucketOf, inBucket, members, holds, bucketRight}
-use Rattle.gnu_runs.specs.Runs.{runStart}
+use Rattle.gnu_check_buckets.specs.Runs.{runStart}
 use Rattle.gnu_rules.proofs.Members.{holds-run, run-holds, all-members, no-member, inside, outside}
 use Rattle.lookup.proofs.Picking.{All, all-from, from-append, select-append, select-none, select-front, by-test, and-left, and-right, not-none}
 

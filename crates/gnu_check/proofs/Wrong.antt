@@ -14,7 +14,7 @@ use borrow.Author.Tests.{eqb-true, eq-eqb, not-true}
 use Rattle.lookup.specs.Pick.{from, firstOf}
 use Rattle.gnu_table.specs.Table.{Table, hashed}
 use Rattle.gnu_rules.specs.Rules.{hashOf, bucketOf, inBucket, valueIsHash, lowest, bucketRight}
-use Rattle.gnu_runs.specs.Runs.{lesser, misplaced, stray, leastMisplaced, leastWrong}
+use Rattle.gnu_check_buckets.specs.Runs.{lesser, misplaced, stray, leastMisplaced, leastWrong}
 use Rattle.lookup.proofs.Picking.{all-from, from-all, firstOf-cong, none-firstOf, firstOf-lowest, by-test, and-left, and-right, not-none}
 use Rattle.gnu_check.proofs.Least.{Least, least-unique, least-map, lesser-least, firstOf-least}
 use Rattle.gnu_check.proofs.Ruled.{stray-plain}

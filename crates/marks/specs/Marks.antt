@@ -12,8 +12,8 @@ use lib.ListN.{length}
 use Rattle.endian.specs.declared.kinds.Class.{Class}
 use Rattle.endian.specs.declared.kinds.Order.{Order}
 use Rattle.endian.specs.Refusals.{anyLong, tooLong}
-use Rattle.entry_marks.specs.declared.EntryMarks.{EntryMarks}
-use Rattle.entry_marks.specs.Marks.{entryMarks, anyEntryMark}
+use Rattle.marks_entry.specs.declared.EntryMarks.{EntryMarks}
+use Rattle.marks_entry.specs.Marks.{entryMarks, anyEntryMark}
 use Rattle.symbol.specs.declared.table.SymbolAt.{SymbolAt}
 use Rattle.symbol.specs.declared.table.SymbolAt.the-variants.{At as Symbol·At, Refused as Symbol·Refused}
 use Rattle.symbol.specs.Table.{symbolAt, symbolSize}

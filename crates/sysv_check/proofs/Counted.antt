@@ -18,7 +18,7 @@ use Rattle.lookup.proofs.Picking.{All, all-map, all-from, from-all, by-test, an
 use Rattle.sysv.specs.Table.{Table, numbers}
 use Rattle.sysv_check.specs.Count.{times}
 use Rattle.sysv_check.specs.Rules.{bucketOf, Chain, right, t1, t3, t3At}
-use Rattle.sysv_chains.specs.Pass.{hashOf, mayStand, follow, onward, followAll, spent, allSpent}
+use Rattle.sysv_check_chains.specs.Pass.{hashOf, mayStand, follow, onward, followAll, spent, allSpent}
 use Rattle.sysv_check.proofs.Counting.{sum, sum-single, sum-times, sum-ones, all-ones, all-every, all-append, times-append, times-none, times-all, all-times}
 use Rattle.sysv_check.proofs.Chained.{chain-range, no-repeat, chain-whole}
 use Rattle.sysv_check.proofs.Ruled.{Shape, shape, placed, right-both}

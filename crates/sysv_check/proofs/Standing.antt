@@ -13,7 +13,7 @@ use borrow.Author.Tests.{leb-true, eq-eqb, le-leb}
 use Rattle.name_hash.specs.Hash.{sysvHash}
 use Rattle.sysv.specs.Table.{Table, numbers}
 use Rattle.sysv_check.specs.Count.{times}
-use Rattle.sysv_chains.specs.Pass.{hashOf}
+use Rattle.sysv_check_chains.specs.Pass.{hashOf}
 use Rattle.sysv_check.specs.Rules.{bucketOf}
 use Rattle.sysv_check.proofs.Counting.{times-all}
 use Rattle.sysv_check.proofs.Chained.{chain-range}

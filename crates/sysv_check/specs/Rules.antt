@@ -14,7 +14,7 @@ use mathlib.Core.List.{List, [], _∷_}
 use lib.Dec.{leb, ltb, eqb}
 use Rattle.lookup.specs.Pick.{from, isNone}
 use Rattle.sysv.specs.Table.{Table, numbers}
-use Rattle.sysv_chains.specs.Pass.{hashOf}
+use Rattle.sysv_check_chains.specs.Pass.{hashOf}
 use Rattle.sysv_check.specs.declared.table.Checked.{Checked}
 use Rattle.sysv_check.specs.declared.table.Checked.the-variants.{Accepted, Broken}
 use Rattle.sysv_check.specs.Count.{every, times}

@@ -7,7 +7,7 @@ use endian::refusals::TOO_LONG;
 use readable_names::lowest_unreadable;
 use symbol::table::SymbolCount;
 use symbol::table::symbol_count;
-use sysv_chains::chains::chains_hold;
+use sysv_check_chains::chains::chains_hold;
 use sysv_header::header::Header;
 use sysv_header::header::HeaderAt;
 use sysv_header::header::header_of;

@@ -17,8 +17,8 @@ use Rattle.version_records.specs.Outcome.{Outcome}
 use Rattle.version_records.specs.Outcome.Outcome.{fine, stop}
 use Rattle.version.specs.Index.{isSpecial}
 use Rattle.version_layout.specs.Indices.{needIndex}
-use Rattle.version_layout.specs.declared.records.Record.{Record}
-use Rattle.version_layout.specs.declared.records.Aux.{Aux}
+use Rattle.version_layout.specs.declared.steps.Record.{Record}
+use Rattle.version_layout.specs.declared.steps.Aux.{Aux}
 use Rattle.version.specs.declared.index.VersionIndex.{VersionIndex}
 use Rattle.version.specs.declared.store.Version.{Version}
 use Rattle.version_entries.specs.Entries.{storing, passedOver, entryStep, entryOutcome}

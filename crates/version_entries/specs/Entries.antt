@@ -26,8 +26,8 @@ use Rattle.version_layout.specs.Indices.{defIndex, needIndex}
 use Rattle.version_layout.specs.Steps.{isBase}
 use Rattle.version.specs.Store.{noFile, Stored}
 use Rattle.version.specs.declared.index.VersionIndex.{VersionIndex}
-use Rattle.version_layout.specs.declared.records.Record.{Record}
-use Rattle.version_layout.specs.declared.records.Aux.{Aux}
+use Rattle.version_layout.specs.declared.steps.Record.{Record}
+use Rattle.version_layout.specs.declared.steps.Aux.{Aux}
 use Rattle.version.specs.declared.store.Part.{Part}
 use Rattle.version.specs.declared.store.Version.{Version}
 use Rattle.version_entries.specs.declared.entries.PartStep.{PartStep}

@@ -7,7 +7,7 @@ use mathlib.Core.List.{List}
 use native.Mathlib.Omega.{arith}
 use Rattle.endian.specs.declared.kinds.Order.{Order}
 use Rattle.version_layout.specs.Indices.{needIndex}
-use Rattle.version_layout.specs.declared.records.Aux.{Aux}
+use Rattle.version_layout.specs.declared.steps.Aux.{Aux}
 use Rattle.version_records.specs.Outcome.{folded}
 use Rattle.version_records.specs.Outcome.Outcome.{fine}
 use Rattle.version_highest.specs.Highest.{auxIndices, higherOf}

@@ -18,8 +18,8 @@ use Rattle.version_records.specs.Outcome.Outcome.{fine, stop}
 use Rattle.version_records.specs.Walk.{collect}
 use Rattle.version_records.specs.Records.{verdefs, verneeds, vernauxs, needCount}
 use Rattle.version.specs.declared.index.VersionIndex.{VersionIndex}
-use Rattle.version_layout.specs.declared.records.Record.{Record}
-use Rattle.version_layout.specs.declared.records.Aux.{Aux}
+use Rattle.version_layout.specs.declared.steps.Record.{Record}
+use Rattle.version_layout.specs.declared.steps.Aux.{Aux}
 use Rattle.version_highest.specs.declared.highest.High.{High}
 
 -- definitions flagged base are passed over

@@ -11,9 +11,9 @@ use Rattle.endian.specs.declared.refusals.Refusal.{Refusal}
 use Rattle.endian.specs.Refusals.{refusal}
 use Rattle.endian.specs.Word.{fieldAt}
 use Rattle.version_layout.specs.Layouts.{verdef}
-use Rattle.version_layout.specs.declared.records.Record.{Record}
-use Rattle.version_layout.specs.declared.records.RecordStep.{RecordStep}
-use Rattle.version_layout.specs.declared.records.AuxStep.{AuxStep}
+use Rattle.version_layout.specs.declared.steps.Record.{Record}
+use Rattle.version_layout.specs.declared.steps.RecordStep.{RecordStep}
+use Rattle.version_layout.specs.declared.steps.AuxStep.{AuxStep}
 
 -- the number 0 is no refusal's
 abbrev pub recordRefusal : RecordStep → Refusal

@@ -35,8 +35,8 @@ use Rattle.version_parse.specs.Room.{All, DefRoom, AuxRoom, NeedRoom}
 use Rattle.version_parse.specs.Parse.{Table, parsedInto, parsed}
 use Rattle.version.specs.Table.{numberAt}
 use Rattle.version.specs.declared.index.VersionIndex.{VersionIndex}
-use Rattle.version_layout.specs.declared.records.Record.{Record}
-use Rattle.version_layout.specs.declared.records.Aux.{Aux}
+use Rattle.version_layout.specs.declared.steps.Record.{Record}
+use Rattle.version_layout.specs.declared.steps.Aux.{Aux}
 use Rattle.version.specs.declared.store.Version.{Version}
 use Rattle.version_records.proofs.Outcomes.{fine-same, stop-fine, cond-fine, bind-from}
 use Rattle.version_parse.proofs.Puts.{sets-below, sets-above, sets-in, length-put}

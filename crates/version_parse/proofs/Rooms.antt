@@ -22,8 +22,8 @@ use Rattle.version_highest.specs.Highest.{higherOf, defIndices, auxIndices, nee
 use Rattle.version.specs.Store.{storeNeeds}
 use Rattle.version_parse.specs.Room.{All, EntryRoom, DefRoom, AuxRoom, NeedRoom}
 use Rattle.version.specs.declared.index.VersionIndex.{VersionIndex}
-use Rattle.version_layout.specs.declared.records.Record.{Record}
-use Rattle.version_layout.specs.declared.records.Aux.{Aux}
+use Rattle.version_layout.specs.declared.steps.Record.{Record}
+use Rattle.version_layout.specs.declared.steps.Aux.{Aux}
 use Rattle.version_entries.specs.Entries.{storing, entryStep}
 use Rattle.version_entries.specs.declared.entries.EntryStep.{EntryStep}
 use Rattle.version.specs.declared.store.Version.{Version}

@@ -8,7 +8,7 @@ use mathlib.Core.List.{List}
 use Rattle.endian.specs.declared.kinds.Order.{Order}
 use Rattle.endian.specs.Word.{fieldAt}
 use Rattle.version_layout.specs.Layouts.{verneed}
-use Rattle.version_layout.specs.declared.records.Record.{Record}
+use Rattle.version_layout.specs.declared.steps.Record.{Record}
 use Rattle.version_records.specs.Outcome.{Outcome, both}
 use Rattle.version_records.specs.Outcome.Outcome.{fine, stop}
 use Rattle.version_records.specs.Walk.{collect}

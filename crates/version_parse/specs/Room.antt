@@ -14,9 +14,9 @@ use Rattle.version_records.specs.Records.{vernauxs, needCount}
 use Rattle.version_layout.specs.Indices.{defIndex, needIndex}
 use Rattle.version_layout.specs.Steps.{isBase}
 use Rattle.version.specs.Store.{storeNeeds}
-use Rattle.version_layout.specs.declared.records.Record.{Record}
+use Rattle.version_layout.specs.declared.steps.Record.{Record}
 use Rattle.version_entries.specs.declared.entries.EntryStep.{EntryStep}
-use Rattle.version_layout.specs.declared.records.Aux.{Aux}
+use Rattle.version_layout.specs.declared.steps.Aux.{Aux}
 
 abbrev pub All : {A : Type 0} → (A → Type 0) → Walk A → Type 0
 All P end = Unit {0}

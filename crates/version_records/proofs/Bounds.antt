@@ -19,8 +19,8 @@ use Rattle.version_records.specs.Outcome.Outcome.{fine, stop}
 use Rattle.version_records.specs.Walk.Walk.{end, broken, more}
 use Rattle.version_records.specs.Records.{placeAfter, recordAt, auxAt, listed, vernauxs, vernauxShape}
 use Rattle.version_records.specs.declared.records.ListShape.{ListShape}
-use Rattle.version_layout.specs.declared.records.Record.{Record}
-use Rattle.version_layout.specs.declared.records.Aux.{Aux}
+use Rattle.version_layout.specs.declared.steps.Record.{Record}
+use Rattle.version_layout.specs.declared.steps.Aux.{Aux}
 use Rattle.version_records.proofs.Outcomes.{fine-same, cond-fine}
 use Rattle.version_records.proofs.Walks.{chain-end, chain-more, chain-stop, counted-end, counted-more, counted-stop}
 

@@ -5,10 +5,10 @@ use mathlib.Core.Path.{_≡_, ap}
 use Rattle.version_records.specs.Outcome.{Outcome}
 use Rattle.version_records.specs.Outcome.Outcome.{fine, stop}
 use Rattle.version_records.specs.Records.{recordStep, recordOutcome, auxStep, auxOutcome}
-use Rattle.version_layout.specs.declared.records.Record.{Record}
-use Rattle.version_layout.specs.declared.records.RecordStep.{RecordStep}
-use Rattle.version_layout.specs.declared.records.Aux.{Aux}
-use Rattle.version_layout.specs.declared.records.AuxStep.{AuxStep}
+use Rattle.version_layout.specs.declared.steps.Record.{Record}
+use Rattle.version_layout.specs.declared.steps.RecordStep.{RecordStep}
+use Rattle.version_layout.specs.declared.steps.Aux.{Aux}
+use Rattle.version_layout.specs.declared.steps.AuxStep.{AuxStep}
 
 pub record-says : (step : RecordStep) (o : Outcome Record) → step ≡ recordStep o → recordOutcome step ≡ o
 record-says step (fine r) h = ap recordOutcome h

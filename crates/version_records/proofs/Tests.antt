@@ -13,8 +13,8 @@ use Rattle.version_layout.specs.Layouts.{field}
 use Rattle.version_records.specs.Records.{placeAfter, recordAt, recordStep, auxAt, auxStep}
 use Rattle.version_records.specs.declared.records.ListShape.{ListShape}
 use Rattle.version_records.specs.declared.records.ChainShape.{ChainShape}
-use Rattle.version_layout.specs.declared.records.RecordStep.{RecordStep}
-use Rattle.version_layout.specs.declared.records.AuxStep.{AuxStep}
+use Rattle.version_layout.specs.declared.steps.RecordStep.{RecordStep}
+use Rattle.version_layout.specs.declared.steps.AuxStep.{AuxStep}
 
 module _ (shape : ListShape) (order : Order) (s : List ℕ) (at : ℕ) where
   pub record-short : length s - at < shape .size

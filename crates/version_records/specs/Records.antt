@@ -24,10 +24,10 @@ use Rattle.version_records.specs.Outcome.Outcome.{fine, stop}
 use Rattle.version_records.specs.Walk.{Walk, chain, counted}
 use Rattle.version_records.specs.declared.records.ListShape.{ListShape}
 use Rattle.version_records.specs.declared.records.ChainShape.{ChainShape}
-use Rattle.version_layout.specs.declared.records.Record.{Record}
-use Rattle.version_layout.specs.declared.records.RecordStep.{RecordStep}
-use Rattle.version_layout.specs.declared.records.Aux.{Aux}
-use Rattle.version_layout.specs.declared.records.AuxStep.{AuxStep}
+use Rattle.version_layout.specs.declared.steps.Record.{Record}
+use Rattle.version_layout.specs.declared.steps.RecordStep.{RecordStep}
+use Rattle.version_layout.specs.declared.steps.Aux.{Aux}
+use Rattle.version_layout.specs.declared.steps.AuxStep.{AuxStep}
 
 abbrev pub verdefShape : ListShape
 verdefShape = record {

@@ -7,7 +7,7 @@ use Rattle.gnu_table.specs.Table.{Table}
 use Rattle.gnu_rules.specs.declared.Checked.the-variants.{Accepted}
 use Rattle.gnu_rules.specs.Rules.{bucketRight, lowest}
 use Rattle.gnu_table.specs.Header.{tableWith}
-use Rattle.gnu_ends.specs.Ends.{endsRun}
+use Rattle.gnu_check_ends.specs.Ends.{endsRun}
 use Rattle.gnu_check.proofs.Judged.{lowest-at, lowest-nowhere, wrong-bucket, right-buckets, ends-search, from-buckets-10, from-buckets-accepted}
 use Rattle.gnu_check.proofs.check.check_buckets.Statement.{statement}
 use Rattle.gnu_check.proofs.check.check_buckets.Tie as tie

@@ -12,7 +12,7 @@ use Rattle.version_records.specs.Outcome.Outcome.{fine, stop}
 use Rattle.version_records.specs.Records.{verdauxShape, auxAt, auxOutcome}
 use Rattle.version.specs.Store.{noFile}
 use Rattle.version_entries.specs.Entries.{defVersion, partAt, partOutcome}
-use Rattle.version_layout.specs.declared.records.Aux.{Aux}
+use Rattle.version_layout.specs.declared.steps.Aux.{Aux}
 use Rattle.version.specs.declared.store.Version.{Version}
 use Rattle.version_records.proofs.Outcomes.{bind-fine, bind-stop}
 use Rattle.version_records.proofs.Steps.{aux-says}

@@ -9,7 +9,7 @@ use Rattle.endian.specs.Word.{wordAt, fieldAt}
 use Rattle.version_layout.specs.Layouts.{vernaux}
 use Rattle.version_records.specs.Outcome.Outcome.{fine}
 use Rattle.version_entries.specs.Entries.{needVersion, partAt, partOutcome}
-use Rattle.version_layout.specs.declared.records.Aux.{Aux}
+use Rattle.version_layout.specs.declared.steps.Aux.{Aux}
 use Rattle.version.specs.declared.store.Version.{Version}
 use Rattle.version_records.proofs.Outcomes.{bind-fine, bind-stop}
 use Rattle.version_entries.proofs.Entered.{entered-is, entered-stop}

@@ -12,7 +12,7 @@ use Rattle.version_records.specs.Walk.{collect}
 use Rattle.version_records.specs.Walk.Walk.{more}
 use Rattle.version_records.specs.Records.{auxOutcome, auxAt, vernauxShape, vernauxs}
 use Rattle.version_highest.specs.Highest.{auxIndices, needIndices, higherOf}
-use Rattle.version_layout.specs.declared.records.Aux.{Aux}
+use Rattle.version_layout.specs.declared.steps.Aux.{Aux}
 use Rattle.version_records.proofs.Walks.{collect-end, collect-broken, collect-turn, counted-repeat}
 use Rattle.version_records.proofs.Steps.{aux-says}
 use Rattle.version_records.proofs.Bounds.{vernauxs-end, vernauxs-more, vernauxs-stop}

@@ -20,7 +20,7 @@ use Rattle.version_layout.specs.Steps.{auxRefusal}
 use Rattle.version_entries.specs.Entries.{needVersion, auxEntries}
 use Rattle.version_parse.specs.Entries.{needEntries, filledOutcome}
 use Rattle.version_parse.specs.Room.{All, AuxRoom}
-use Rattle.version_layout.specs.declared.records.Aux.{Aux}
+use Rattle.version_layout.specs.declared.steps.Aux.{Aux}
 use Rattle.version_records.proofs.Walks.{collect-end, collect-broken, collect-turn, collect-leave, counted-repeat}
 use Rattle.version_records.proofs.Bounds.{vernauxs-end, vernauxs-more, vernauxs-stop}
 use Rattle.version_parse.proofs.Again.{storing-again}

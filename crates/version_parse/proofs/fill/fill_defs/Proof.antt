@@ -19,7 +19,7 @@ use Rattle.version_records.specs.Records.{recordOutcome, recordAt, verdefShape,
 use Rattle.version_entries.specs.Entries.{passedOver, defVersion, defEntries}
 use Rattle.version_parse.specs.Entries.{filledOutcome}
 use Rattle.version_parse.specs.Room.{All, DefRoom}
-use Rattle.version_layout.specs.declared.records.Record.{Record}
+use Rattle.version_layout.specs.declared.steps.Record.{Record}
 use Rattle.version_records.proofs.Walks.{collect-end, collect-broken, collect-turn, collect-leave}
 use Rattle.version_records.proofs.Steps.{record-says}
 use Rattle.version_records.proofs.Bounds.{record-onward, listed-end, listed-more, listed-stop}

@@ -17,7 +17,7 @@ use Rattle.version_parse.specs.declared.fill.Filled.{Filled}
 use Rattle.version_records.specs.Records.{recordOutcome, recordAt, verneedShape, verneeds}
 use Rattle.version_parse.specs.Entries.{needEntries, filledOutcome}
 use Rattle.version_parse.specs.Room.{All, NeedRoom}
-use Rattle.version_layout.specs.declared.records.Record.{Record}
+use Rattle.version_layout.specs.declared.steps.Record.{Record}
 use Rattle.version_records.proofs.Walks.{collect-end, collect-broken, collect-turn, collect-leave}
 use Rattle.version_records.proofs.Steps.{record-says}
 use Rattle.version_records.proofs.Bounds.{record-place, record-onward, listed-end, listed-more, listed-stop}
