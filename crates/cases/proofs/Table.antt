@@ -27,7 +27,7 @@ use Rattle.gnu_rules.specs.declared.Checked.the-variants.{Accepted}
 use Rattle.gnu_rules.specs.Rules.{gnuCheck, powerOfTwo, hashOf, isLast, findings, longest, verdict}
 use Rattle.lookup.specs.declared.Answer.{Answer}
 use Rattle.lookup.specs.declared.Answer.the-variants.{Found, Missing}
-use Rattle.lookup.specs.Wanted.{nameOf, symbolIndex, wantedIn}
+use Rattle.lookup.specs.Wanted.{nameOf, wantedIn}
 use Rattle.name_hash.specs.Hash.{gnuHash, sysvHash}
 use Rattle.property_reader.specs.declared.Property.{Property}
 use Rattle.property_reader.specs.declared.PropertyStep.the-variants.{Property as Step·Property, Refused}
@@ -37,7 +37,7 @@ use Rattle.property_reader.specs.Reader.{propertyStep, to}
 use Rattle.note_properties.specs.Properties.{start}
 use Rattle.note.specs.Walk.{none, onto, ended, stopped, notesWithin, notesFrom, sectionNotes}
 use Rattle.strings.specs.Strings.{readable}
-use Rattle.symbol.specs.Table.{symbolAt}
+use Rattle.symbol.specs.Table.{symbolAt, symbolIndex}
 use Rattle.version_match.specs.declared.Need.{Need}
 use Rattle.version.specs.Table.{storedAt, valid, entryAt, versymAt}
 use Rattle.version_match.specs.Match.{matching}

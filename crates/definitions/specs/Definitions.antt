@@ -16,13 +16,13 @@ use Rattle.endian.specs.Refusals.{anyLong, tooLong}
 use Rattle.symbol_entry.specs.Entry.{isUndefined}
 use Rattle.symbol.specs.declared.table.SymbolAt.{SymbolAt}
 use Rattle.symbol.specs.declared.table.SymbolAt.the-variants.{At, Refused as Symbol·Refused}
-use Rattle.symbol.specs.Table.{symbolAt, symbolSize}
+use Rattle.symbol.specs.Table.{symbolAt, symbolsIn, symbolIndex}
 use Rattle.version.specs.declared.table.VersymAt.{VersymAt}
 use Rattle.version.specs.declared.table.VersymAt.the-variants.{At as Versym·At, Refused as Versym·Refused}
 use Rattle.version.specs.Index.{isSpecial}
 use Rattle.version.specs.Table.{versymAt}
 use Rattle.lookup.specs.Pick.{from, select}
-use Rattle.lookup.specs.Wanted.{nameOf, isNamed, symbolIndex}
+use Rattle.lookup.specs.Wanted.{nameOf, isNamed}
 use Rattle.definitions.specs.declared.Which.{Which}
 use Rattle.definitions.specs.declared.Which.the-variants.{All, Unversioned}
 use Rattle.definitions.specs.declared.Definitions.{Definitions}
@@ -51,4 +51,4 @@ countIn p n = length (select p (from 1 (n - 1)))
 abbrev pub definitionsOf : Class → Order → (symbols strings versyms name : List ℕ) → Which → Definitions
 definitionsOf class order symbols strings versyms name which =
     cond (anyLong (strings ∷ versyms ∷ name ∷ symbols ∷ [])) (Refused tooLong)
-    (Count (countIn (definesIn class order symbols strings versyms name which) (length symbols / symbolSize class)))
+    (Count (countIn (definesIn class order symbols strings versyms name which) (symbolsIn class symbols)))

@@ -10,8 +10,8 @@ use symbol::table::SymbolAt;
 use symbol::table::SymbolCount;
 use symbol::table::SymbolIndex;
 ghost use mathlib.Core.Path.{_≡_};
-ghost use Rattle.symbol.specs.Table.{symbolCount, symbolAt, symbolName};
-ghost use Rattle.export.specs.Answers.{classOf, orderOf, placeOf, symbolIndex};
+ghost use Rattle.symbol.specs.Table.{symbolCount, symbolAt, symbolName, symbolIndex};
+ghost use Rattle.export.specs.Answers.{classOf, orderOf, placeOf};
 ghost use Rattle.export_symbols.specs.Answers.{countAnswer, symbolAnswer};
 
 #[repr(C)]

@@ -9,7 +9,8 @@ use symbol::table::SymbolIndex;
 use version_match::Need;
 use version_match::matches;
 ghost use mathlib.Core.Path.{_≡_};
-ghost use Rattle.export.specs.Answers.{orderOf, symbolIndex};
+ghost use Rattle.symbol.specs.Table.{symbolIndex};
+ghost use Rattle.export.specs.Answers.{orderOf};
 ghost use Rattle.export_version_match.specs.Answers.{needOf, matchAnswer};
 
 // Which version is needed, as C passes it: any where needed is 0.

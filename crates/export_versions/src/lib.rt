@@ -5,8 +5,9 @@ use version::index::VersionIndex;
 use version::table::EntryAt;
 use version::table::VersymAt;
 ghost use mathlib.Core.Path.{_≡_};
+ghost use Rattle.symbol.specs.Table.{symbolIndex};
 ghost use Rattle.version.specs.Table.{entryAt, versymAt};
-ghost use Rattle.export.specs.Answers.{orderOf, symbolIndex};
+ghost use Rattle.export.specs.Answers.{orderOf};
 ghost use Rattle.export_versions.specs.Answers.{versionIndex, noVersion, versionAnswer, versymAnswer};
 
 // What stands behind a version index: special is 1 for the indices 0 and 1, which name no version.

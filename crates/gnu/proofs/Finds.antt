@@ -12,11 +12,11 @@ use lib.ListN.{length}
 use Rattle.endian.specs.declared.kinds.Class.{Class}
 use Rattle.endian.specs.declared.kinds.Order.{Order}
 use Rattle.endian.specs.declared.refusals.Refusal.{Refusal}
-use Rattle.endian.specs.Refusals.{limit, anyLong, tooLong}
+use Rattle.endian.specs.Refusals.{limit, anyLong, tooLong, unlessRefused}
 use Rattle.symbol.specs.declared.table.SymbolCount.{SymbolCount}
 use Rattle.symbol.specs.Table.{symbolSize, symbolCount}
 use Rattle.lookup.specs.declared.Answer.{Answer}
-use Rattle.lookup.specs.Wanted.{Parts, Asked, wanted, unlessFault}
+use Rattle.lookup.specs.Wanted.{Parts, Asked, wanted}
 use Rattle.gnu_table.specs.declared.header.HeaderAt.{HeaderAt}
 use Rattle.gnu_table.specs.declared.header.Layout.{Layout}
 use Rattle.gnu_table.specs.Table.{bloomFirst, bloomSecond, bloomFilter}
@@ -38,7 +38,7 @@ findBy false (SymbolCount.Symbols n) (HeaderAt.At layout) look = look layout n
 
 -- the parts may be tested in any order, for each is refused alike
 any-order : (tableLong symbolsLong restLong : Bool) (o : Option Refusal) (n : ℕ) (layout : Layout) (look : Layout → ℕ → Answer)
-    → cond (cond tableLong true (cond symbolsLong true restLong)) (Answer.Refused tooLong) (unlessFault o (look layout n))
+    → cond (cond tableLong true (cond symbolsLong true restLong)) (Answer.Refused tooLong) (unlessRefused Answer.Refused o (look layout n))
     ≡ findBy restLong (cond symbolsLong (SymbolCount.Refused tooLong) (SymbolCount.Symbols n))
     (cond tableLong (HeaderAt.Refused tooLong) (headerAnswer o layout)) look
 any-order true true true o n layout look = refl

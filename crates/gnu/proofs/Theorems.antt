@@ -8,15 +8,16 @@ use mathlib.Core.Path.{_≡_}
 use mathlib.Core.Bool.{Bool, true, false, cond, _&&_}
 use mathlib.Core.Option.{Option, some, none}
 use lib.Dec.{eqb}
+use Rattle.symbol.specs.Table.{symbolIndex}
 use Rattle.endian.specs.declared.kinds.Class.{Class}
 use Rattle.endian.specs.declared.kinds.Order.{Order}
 use Rattle.endian.specs.declared.refusals.Refusal.{Refusal}
-use Rattle.endian.specs.Refusals.{anyLong, tooLong}
+use Rattle.endian.specs.Refusals.{anyLong, tooLong, unlessRefused}
 use Rattle.version_match.specs.declared.Need.{Need}
 use Rattle.version_match.specs.Match.{matching}
 use Rattle.lookup.specs.declared.Answer.{Answer}
 use Rattle.lookup.specs.declared.Answer.the-variants.{Found, Missing, Refused}
-use Rattle.lookup.specs.Wanted.{Parts, Asked, allParts, nameOf, symbolIndex, wanted, unlessFault}
+use Rattle.lookup.specs.Wanted.{Parts, Asked, allParts, nameOf, wanted}
 use Rattle.lookup.proofs.Picking.{and-right}
 use Rattle.lookup.proofs.Distinct.{Same, wanted-named, wanted-fits, wanted-one, walk-wanted}
 use Rattle.gnu_table.specs.declared.filter.Bloom.{Bloom}
@@ -41,7 +42,7 @@ module _ (i probes : ℕ) where
   past-long true a h = cc
   past-long false a h = h
 
-  past-fault : (o : Option Refusal) (a : Answer) → unlessFault o a ≡ Found (symbolIndex i) probes → a ≡ Found (symbolIndex i) probes
+  past-fault : (o : Option Refusal) (a : Answer) → unlessRefused Answer.Refused o a ≡ Found (symbolIndex i) probes → a ≡ Found (symbolIndex i) probes
   past-fault none a h = h
   past-fault (some r) a h = cc
 

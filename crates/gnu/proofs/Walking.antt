@@ -12,10 +12,11 @@ use mathlib.Core.List.{List}
 use native.Mathlib.Nat.{zero-add, add-zero, sub-self}
 use native.Mathlib.Omega.{arith}
 use lib.ListN.{length}
+use Rattle.symbol.specs.Table.{symbolIndex}
 use Rattle.lookup.specs.declared.Answer.{Answer}
 use Rattle.lookup.specs.declared.Answer.the-variants.{Found, Missing}
 use Rattle.lookup.specs.Pick.{from, firstOf, upTo}
-use Rattle.lookup.specs.Wanted.{symbolIndex, answerOf, walk}
+use Rattle.lookup.specs.Wanted.{answerOf, walk}
 use Rattle.lookup.proofs.Picking.{from-cons}
 
 module _ (match ends : ℕ → Bool) where

@@ -4,10 +4,10 @@ use Prim.Native.Nat.{ℕ}
 use mathlib.Core.Bool.{cond}
 use Rattle.endian.specs.declared.kinds.Class.{Class}
 use Rattle.endian.specs.declared.kinds.Order.{Order}
-use Rattle.endian.specs.Refusals.{anyLong, tooLong}
+use Rattle.endian.specs.Refusals.{anyLong, tooLong, unlessRefused}
 use Rattle.lookup.specs.declared.Answer.{Answer}
 use Rattle.lookup.specs.declared.Answer.the-variants.{Refused}
-use Rattle.lookup.specs.Wanted.{Parts, Asked, allParts, wanted, unlessFault}
+use Rattle.lookup.specs.Wanted.{Parts, Asked, allParts, wanted}
 use Rattle.gnu_table.specs.Table.{Table}
 use Rattle.gnu_table.specs.Layout.{fault, tableOf}
 use Rattle.gnu.specs.Lookup.{lookup}
@@ -18,4 +18,4 @@ gnuTable class order p = tableOf class order (p .table) (p .symbols) (p .strings
 unfoldable pub gnuFind : Class → Order → Parts → Asked → (hash : ℕ) → Answer
 gnuFind class order p asked hash =
     cond (anyLong (allParts p asked)) (Refused tooLong)
-    (unlessFault (fault class order (p .table)) (lookup (gnuTable class order p) hash (wanted class order p asked)))
+    (unlessRefused Answer.Refused (fault class order (p .table)) (lookup (gnuTable class order p) hash (wanted class order p asked)))

@@ -20,7 +20,7 @@ use borrow.Author.Tests.{leb-true, eqb-true, eqb-false, eq-eqb, ne-eqb, lt-ltb}
 use Rattle.endian.specs.declared.kinds.Class.{Class}
 use Rattle.endian.specs.declared.kinds.Order.{Order}
 use Rattle.endian.specs.declared.refusals.Refusal.{Refusal}
-use Rattle.endian.specs.Refusals.{limit, tooLong}
+use Rattle.endian.specs.Refusals.{limit, tooLong, unlessRefused}
 use Rattle.symbol.specs.declared.table.SymbolCount.{SymbolCount}
 use Rattle.symbol.specs.Table.{symbolSize, symbolCount}
 use Rattle.lookup.specs.Pick.{from, largest}
@@ -32,7 +32,7 @@ use Rattle.gnu_table.specs.Layout.{fault}
 use Rattle.gnu_table.specs.Header.{layoutOf, headerAnswer, gnuHeader, tableWith}
 use Rattle.gnu_rules.specs.declared.Checked.{Checked}
 use Rattle.gnu_rules.specs.declared.Checked.the-variants.{Accepted, Broken, Refused}
-use Rattle.gnu_rules.specs.Rules.{bucketOf, powerOfTwo, baseWithin, bloomCountPower, someBucket, shiftWithin, enoughValues, nameReadable, valueIsHash, bloomBitsSet, bucketRight, endsAtLast, whole, lowest, findings, longest, verdict, check, unlessRefused, gnuCheck}
+use Rattle.gnu_rules.specs.Rules.{bucketOf, powerOfTwo, baseWithin, bloomCountPower, someBucket, shiftWithin, enoughValues, nameReadable, valueIsHash, bloomBitsSet, bucketRight, endsAtLast, whole, lowest, findings, longest, verdict, check, gnuCheck}
 use Rattle.gnu_rules.proofs.Kept.{power-low, lowest-none}
 use Rattle.lookup.specs.Search.{firstFrom}
 use Rattle.gnu_rules.specs.HeaderRules.{firstBroken, brokenHeader}
@@ -244,7 +244,7 @@ checkFrom false (SymbolCount.Symbols n) (HeaderAt.At layout) look = look layout 
 any-order : (tableLong symbolsLong stringsLong : Bool) (o : Option Refusal) (n : ℕ) (layout : Layout)
     (look : Layout → ℕ → Checked)
     → cond (cond tableLong true (cond symbolsLong true (cond stringsLong true false))) (Refused tooLong)
-    (unlessRefused o (look layout n))
+    (unlessRefused Checked.Refused o (look layout n))
     ≡ checkFrom stringsLong (cond symbolsLong (SymbolCount.Refused tooLong) (SymbolCount.Symbols n))
     (cond tableLong (HeaderAt.Refused tooLong) (headerAnswer o layout)) look
 any-order true true true o n layout look = refl

@@ -24,9 +24,9 @@ use Rattle.strings.specs.declared.StringAt.the-variants.{At, Refused}
 use Rattle.strings.specs.Strings.{isZero, readable}
 use Rattle.symbol_entry.specs.declared.Symbol.{Symbol}
 use Rattle.symbol.specs.declared.table.SymbolAt.the-variants.{At as Symbol·At, Refused as Symbol·Refused}
-use Rattle.symbol.specs.Table.{symbolAt}
+use Rattle.symbol.specs.Table.{symbolAt, symbolIndex}
 use Rattle.name_hash.specs.Hash.{gnuStep, gnuHash}
-use Rattle.lookup.specs.Wanted.{bytesOf, symbolIndex}
+use Rattle.lookup.specs.Wanted.{bytesOf}
 use Rattle.lookup.proofs.Named.{name-at, name-none}
 use Rattle.gnu_check_hashes.specs.Names.{hashAt, hashIn}
 

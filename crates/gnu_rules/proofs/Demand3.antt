@@ -17,18 +17,18 @@ use lib.ListN.{length}
 use Rattle.endian.specs.declared.kinds.Class.{Class}
 use Rattle.endian.specs.declared.kinds.Order.{Order}
 use Rattle.endian.specs.declared.refusals.Refusal.{Refusal}
-use Rattle.endian.specs.Refusals.{limit, anyLong}
+use Rattle.endian.specs.Refusals.{limit, anyLong, unlessRefused}
 use Rattle.endian.specs.Word.{wordAt}
 use Rattle.strings.proofs.Meaning.{same-refl}
 use Rattle.name_hash.specs.Hash.{gnuHash}
 use Rattle.symbol.specs.declared.table.SymbolIndex.{SymbolIndex}
-use Rattle.symbol.specs.Table.{symbolSize}
+use Rattle.symbol.specs.Table.{symbolSize, symbolIndex}
 use Rattle.version_match.specs.declared.Need.{Need}
 use Rattle.version_match.specs.Match.{matching}
 use Rattle.lookup.specs.declared.Answer.{Answer}
 use Rattle.lookup.specs.declared.Answer.the-variants.{Found, Missing, Refused}
 use Rattle.lookup.specs.Pick.{from, firstOf}
-use Rattle.lookup.specs.Wanted.{Parts, Asked, nameOf, symbolIndex, wanted, wantedIn, answerOf}
+use Rattle.lookup.specs.Wanted.{Parts, Asked, nameOf, wanted, wantedIn, answerOf}
 use Rattle.lookup.proofs.Distinct.{wanted-named, wanted-fits}
 use Rattle.lookup.proofs.Picking.{from-all, none-firstOf, firstOf-lowest, Lowest, by-test}
 use Rattle.gnu_table.specs.Table.{hashed}
@@ -36,7 +36,7 @@ use Rattle.gnu_table.specs.Layout.{fault}
 use Rattle.gnu.specs.Find.{gnuTable, gnuFind}
 use Rattle.gnu.proofs.Theorems.{find-one}
 use Rattle.gnu_rules.specs.declared.Checked.the-variants.{Accepted, Refused as Checked·Refused}
-use Rattle.gnu_rules.specs.Rules.{check, unlessRefused, gnuCheck}
+use Rattle.gnu_rules.specs.Rules.{check, gnuCheck}
 use Rattle.gnu_rules.proofs.Kept.{rules, accepted-longest}
 use Rattle.gnu_rules.proofs.Finds.{finds-lowest}
 
@@ -190,7 +190,7 @@ accept class order p most h =
     (λ short. go (fault class order (p .table)) refl short (rw short at h))
   where
     go : (o : Option Refusal) → fault class order (p .table) ≡ o → anyLong (p .table ∷ p .symbols ∷ p .strings ∷ []) ≡ false
-        → unlessRefused o (check (gnuTable class order p)) ≡ Accepted most → Accept class order p most
+        → unlessRefused Checked.Refused o (check (gnuTable class order p)) ≡ Accepted most → Accept class order p most
     go none none-there short h = record { table = h; header = none-there; short = short }
     go (some r) there short h = absurd (refused-accepted r most h)
 

@@ -24,7 +24,7 @@ use lib.ListN.{length}
 use Rattle.endian.specs.declared.kinds.Class.{Class}
 use Rattle.endian.specs.declared.kinds.Order.{Order}
 use Rattle.endian.specs.declared.refusals.Refusal.{Refusal}
-use Rattle.endian.specs.Refusals.{anyLong, tooLong}
+use Rattle.endian.specs.Refusals.{anyLong, tooLong, unlessRefused}
 use Rattle.strings.specs.Strings.{same}
 use Rattle.name_hash.specs.Hash.{gnuHash}
 use Rattle.lookup.specs.Pick.{from, select, firstOf, largest, isNone}
@@ -136,11 +136,7 @@ verdict most k (some place ∷ rest) = Broken k place
 abbrev pub check : Table → Checked
 check t = verdict (longest t) 1 (findings t)
 
-abbrev pub unlessRefused : Option Refusal → Checked → Checked
-unlessRefused none answer = answer
-unlessRefused (some r) answer = Refused r
-
 unfoldable pub gnuCheck : Class → Order → (table symbols strings : List ℕ) → Checked
 gnuCheck class order table symbols strings =
     cond (anyLong (table ∷ symbols ∷ strings ∷ [])) (Refused tooLong)
-    (unlessRefused (fault class order table) (check (tableOf class order table symbols strings)))
+    (unlessRefused Checked.Refused (fault class order table) (check (tableOf class order table symbols strings)))

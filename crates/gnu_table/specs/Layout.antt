@@ -16,7 +16,7 @@ use Rattle.endian.specs.declared.kinds.Order.{Order}
 use Rattle.endian.specs.declared.refusals.Refusal.{Refusal}
 use Rattle.endian.specs.Refusals.{badGnuHeader, badGnuBloom, badGnuBuckets}
 use Rattle.endian.specs.Word.{wordAt}
-use Rattle.symbol.specs.Table.{symbolSize}
+use Rattle.symbol.specs.Table.{symbolsIn}
 use Rattle.lookup.specs.Wanted.{nameOf}
 use Rattle.gnu_table.specs.Table.{Table}
 
@@ -54,6 +54,6 @@ module _ (class : Class) (order : Order) (bytes : List ℕ) where
     bucket = λ b. wordAt order 4 bytes (bucketsAt + b * 4);
     value = λ i. wordAt order 4 bytes (valuesAt + i * 4);
     valueCount = (length bytes - valuesAt) / 4;
-    count = length symbols / symbolSize class;
+    count = symbolsIn class symbols;
     name = nameOf class order symbols strings;
   }

@@ -9,6 +9,7 @@ use mathlib.Core.Bool.{Bool, true, false, _&&_}
 use mathlib.Core.List.{List}
 use mathlib.Core.Option.{Option, some, none}
 use lib.ListN.{length}
+use Rattle.symbol.specs.Table.{symbolIndex}
 use Rattle.endian.specs.declared.kinds.Class.{Class}
 use Rattle.endian.specs.declared.kinds.Order.{Order}
 use Rattle.strings.specs.Strings.{same}
@@ -20,7 +21,7 @@ use Rattle.version_match.proofs.Decides.{match-one}
 use Rattle.lookup.specs.declared.Answer.{Answer}
 use Rattle.lookup.specs.declared.Answer.the-variants.{Found, Missing, Refused}
 use Rattle.lookup.specs.Pick.{firstOf, upTo}
-use Rattle.lookup.specs.Wanted.{Parts, Asked, nameOf, isNamed, symbolIndex, wanted, wantedIn, answerOf, walk}
+use Rattle.lookup.specs.Wanted.{Parts, Asked, nameOf, isNamed, wanted, wantedIn, answerOf, walk}
 use Rattle.lookup.proofs.Picking.{and-left, and-right, firstOf-passes}
 
 -- a name that is read and is the one asked for

@@ -19,9 +19,9 @@ use Rattle.strings.specs.Strings.{isName, stringAt, stringEquals}
 use Rattle.symbol_entry.specs.declared.Symbol.{Symbol}
 use Rattle.symbol.specs.declared.table.SymbolAt.{SymbolAt}
 use Rattle.symbol.specs.declared.table.SymbolAt.the-variants.{At as Symbol·At, Refused}
-use Rattle.symbol.specs.Table.{symbolAt, nameIn}
+use Rattle.symbol.specs.Table.{symbolAt, nameIn, symbolIndex}
 use Rattle.symbol.proofs.Names.{symbolName-long, symbolName-fits}
-use Rattle.lookup.specs.Wanted.{nameOf, bytesOf, isNamed, symbolIndex}
+use Rattle.lookup.specs.Wanted.{nameOf, bytesOf, isNamed}
 use Rattle.lookup.proofs.Picking.{by-test}
 
 module _ (class : Class) (order : Order) (symbols strings : List ℕ) (i : ℕ) where

@@ -1,3 +1,4 @@
+pub mod Matches
 pub mod Pick
 pub mod Search
 pub mod Wanted

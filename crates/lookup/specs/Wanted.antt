@@ -5,7 +5,6 @@
 --     nameOf        the bytes of a symbol's name, or none where there is no such symbol or its name cannot be read
 --     isNamed       whether that is a name; one that cannot be read never is
 --     wanted        whether a symbol has the name and the version that are asked for; `wantedIn` of the parts that this looks at
---     unlessFault   an answer, unless the table's places are refused
 --     walk          the first match on a list of numbers, and how many of them were tested
 -- Assumes nothing.
 use Prim.Native.Nat.{ℕ}
@@ -20,7 +19,7 @@ use Rattle.strings.specs.declared.StringAt.{StringAt}
 use Rattle.strings.specs.declared.StringAt.the-variants.{At, Refused as String·Refused}
 use Rattle.strings.specs.Strings.{same}
 use Rattle.symbol.specs.declared.table.SymbolIndex.{SymbolIndex}
-use Rattle.symbol.specs.Table.{symbolName}
+use Rattle.symbol.specs.Table.{symbolName, symbolIndex}
 use Rattle.version_match.specs.declared.Need.{Need}
 use Rattle.version_match.specs.Match.{matching}
 use Rattle.lookup.specs.declared.Answer.{Answer}
@@ -46,9 +45,6 @@ pub record Asked : Type 0 where
 abbrev pub allParts : Parts → Asked → List (List ℕ)
 allParts p asked =
     p .table ∷ p .symbols ∷ p .strings ∷ p .versyms ∷ p .versionStrings ∷ asked .name ∷ asked .needName ∷ []
-
-abbrev pub symbolIndex : ℕ → SymbolIndex
-symbolIndex i = record { 0 = i }
 
 -- the bytes of a string that was looked for
 abbrev pub bytesOf : List ℕ → StringAt → Option (List ℕ)
@@ -78,7 +74,3 @@ answerOf none probes = Missing probes
 
 abbrev pub walk : (ℕ → Bool) → List ℕ → Answer
 walk match xs = answerOf (firstOf match xs) (length (upTo match xs))
-
-abbrev pub unlessFault : Option Refusal → Answer → Answer
-unlessFault none answer = answer
-unlessFault (some r) answer = Refused r

@@ -16,7 +16,7 @@ use Rattle.marks_entry.specs.declared.EntryMarks.{EntryMarks}
 use Rattle.marks_entry.specs.Marks.{entryMarks, anyEntryMark}
 use Rattle.symbol.specs.declared.table.SymbolAt.{SymbolAt}
 use Rattle.symbol.specs.declared.table.SymbolAt.the-variants.{At as Symbol·At, Refused as Symbol·Refused}
-use Rattle.symbol.specs.Table.{symbolAt, symbolSize}
+use Rattle.symbol.specs.Table.{symbolAt, symbolsIn}
 use Rattle.version_match.specs.declared.Need.{Need}
 use Rattle.lookup.specs.declared.Answer.{Answer}
 use Rattle.definitions.specs.declared.Which.the-variants.{All, Unversioned}
@@ -49,7 +49,7 @@ marksFor class order symbols need definitions unversioned (Answer.Refused r) = R
 
 unfoldable pub marksOf : Class → Order → (symbols strings versyms name : List ℕ) → Need → Answer → MarksAt
 marksOf class order symbols strings versyms name need answer =
-    let symbolCount = length symbols / symbolSize class in
+    let symbolCount = symbolsIn class symbols in
     cond (anyLong (strings ∷ versyms ∷ name ∷ symbols ∷ [])) (Refused tooLong)
     (marksFor class order symbols need
     (countIn (definesIn class order symbols strings versyms name All) symbolCount)

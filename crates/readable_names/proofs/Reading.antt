@@ -18,9 +18,9 @@ use Rattle.strings.specs.Strings.{isZero, readable, stringAt}
 use Rattle.strings.proofs.Readable.{readable-below}
 use Rattle.symbol.specs.declared.table.SymbolAt.{SymbolAt}
 use Rattle.symbol.specs.declared.table.SymbolAt.the-variants.{At as Symbol·At, Refused as Symbol·Refused}
-use Rattle.symbol.specs.Table.{symbolAt}
+use Rattle.symbol.specs.Table.{symbolAt, symbolIndex}
 use Rattle.lookup.specs.Pick.{isNone}
-use Rattle.lookup.specs.Wanted.{bytesOf, symbolIndex}
+use Rattle.lookup.specs.Wanted.{bytesOf}
 use Rattle.lookup.proofs.Named.{name-at, name-none}
 use Rattle.lookup.proofs.Picking.{by-test}
 use Rattle.readable_names.specs.Readable.{readableIn, readableEnd, startsBelow}

@@ -8,9 +8,8 @@ use symbol::table::SymbolIndex;
 use symbol::table::symbol_at;
 ghost use mathlib.Core.Bool.{not};
 ghost use mathlib.Core.Path.{_≡_};
-ghost use Rattle.symbol.specs.Table.{symbolAt};
+ghost use Rattle.symbol.specs.Table.{symbolAt, symbolIndex};
 ghost use Rattle.lookup.specs.Search.{firstFrom};
-ghost use Rattle.lookup.specs.Wanted.{symbolIndex};
 ghost use Rattle.readable_names.specs.Readable.{readableIn, readableEnd, startsBelow};
 
 // The place before which a string that can be read starts: after the last zero, or 0 in strings

@@ -1,7 +1,9 @@
 -- A table of symbols, as the gABI and document 01's "Layouts" lay them out.
+--     symbolIndex     the symbol number of a number
 --     symbolSize      the bytes of a record
+--     symbolsIn       n: how many whole records there are
 --     symbolOf        the fields of the record at a place
---     symbolCount     how many whole records there are
+--     symbolCount     the same, unless the symbols are too long
 --     symbolAt        the symbol of a number
 --     symbolName      the name of the symbol of a number
 -- Assumes nothing.
@@ -43,9 +45,15 @@ layout Elf64 shndx = record { at = 6; width = 2 }
 layout Elf64 value = record { at = 8; width = 8 }
 layout Elf64 size = record { at = 16; width = 8 }
 
+abbrev pub symbolIndex : ℕ → SymbolIndex
+symbolIndex i = record { 0 = i }
+
 abbrev pub symbolSize : Class → ℕ
 symbolSize Elf32 = 16
 symbolSize Elf64 = 24
+
+abbrev pub symbolsIn : Class → (symbols : List ℕ) → ℕ
+symbolsIn class symbols = length symbols / symbolSize class
 
 abbrev pub symbolOf : Class → Order → List ℕ → (base : ℕ) → Symbol
 symbolOf class order s base = record {
@@ -58,7 +66,7 @@ symbolOf class order s base = record {
 }
 
 abbrev pub symbolCount : Class → List ℕ → SymbolCount
-symbolCount class s = cond (ltb limit (length s)) (Count·Refused tooLong) (Symbols (length s / symbolSize class))
+symbolCount class s = cond (ltb limit (length s)) (Count·Refused tooLong) (Symbols (symbolsIn class s))
 
 -- number 0 is refused, as is one past the whole records
 unfoldable pub symbolAt : Class → Order → List ℕ → SymbolIndex → SymbolAt

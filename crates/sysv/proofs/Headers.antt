@@ -13,10 +13,10 @@ use borrow.Author.Tests.{eq-eqb, ne-eqb}
 use Rattle.endian.specs.declared.kinds.Class.{Class}
 use Rattle.endian.specs.declared.kinds.Order.{Order}
 use Rattle.endian.specs.declared.refusals.Refusal.{Refusal}
-use Rattle.endian.specs.Refusals.{limit, anyLong, tooLong}
+use Rattle.endian.specs.Refusals.{limit, anyLong, tooLong, unlessRefused}
 use Rattle.endian.specs.Word.{wordAt}
 use Rattle.lookup.specs.declared.Answer.{Answer}
-use Rattle.lookup.specs.Wanted.{Parts, Asked, wanted, walk, unlessFault}
+use Rattle.lookup.specs.Wanted.{Parts, Asked, wanted, walk}
 use Rattle.sysv_header.specs.declared.header.Header.{Header}
 use Rattle.sysv_header.specs.declared.header.HeaderAt.{HeaderAt}
 use Rattle.sysv_header.specs.Header.{fault, headerOf, headerAt, headerUnless}
@@ -40,7 +40,7 @@ module _ (class : Class) (order : Order) (p : Parts) (asked : Asked) (hash : ℕ
   find-from = by (ltb limit (length (p .table))) (anyLong otherParts) (fault order (p .table)) _
     where
       by : (t u : Bool) (o : Option Refusal) (answer : Answer)
-          → cond (cond t true u) (Answer.Refused tooLong) (unlessFault o answer)
+          → cond (cond t true u) (Answer.Refused tooLong) (unlessRefused Answer.Refused o answer)
           ≡ cond u (Answer.Refused tooLong)
           (findFrom (cond t (HeaderAt.Refused tooLong) (headerUnless o (headerOf order (p .table)))) answer)
       by true true o answer = refl

@@ -8,14 +8,15 @@ use mathlib.Core.Path.{_≡_}
 use mathlib.Core.Bool.{Bool, true, false, cond}
 use mathlib.Core.Option.{Option, some, none}
 use lib.Dec.{eqb}
+use Rattle.symbol.specs.Table.{symbolIndex}
 use Rattle.endian.specs.declared.kinds.Class.{Class}
 use Rattle.endian.specs.declared.kinds.Order.{Order}
 use Rattle.endian.specs.declared.refusals.Refusal.{Refusal}
-use Rattle.endian.specs.Refusals.{anyLong, tooLong}
+use Rattle.endian.specs.Refusals.{anyLong, tooLong, unlessRefused}
 use Rattle.version_match.specs.declared.Need.{Need}
 use Rattle.version_match.specs.Match.{matching}
 use Rattle.lookup.specs.declared.Answer.the-variants.{Found, Missing, Refused}
-use Rattle.lookup.specs.Wanted.{Parts, Asked, allParts, nameOf, symbolIndex, wanted, walk, unlessFault}
+use Rattle.lookup.specs.Wanted.{Parts, Asked, allParts, nameOf, wanted, walk}
 use Rattle.lookup.proofs.Distinct.{Same, wanted-named, wanted-fits, wanted-one, walk-wanted}
 use Rattle.sysv_header.specs.Header.{fault}
 use Rattle.sysv.specs.Table.{Table, numbers, lookup}
@@ -39,7 +40,7 @@ module _ (class : Class) (order : Order) (p : Parts) where
       where
         by : (long : Bool) (o : Option Refusal)
             → cond long (Refused tooLong)
-            (unlessFault o (lookup (sysvTable class order p) hash (wanted class order p asked)))
+            (unlessRefused Answer.Refused o (lookup (sysvTable class order p) hash (wanted class order p asked)))
             ≡ Found (symbolIndex i) probes
             → wanted class order p asked i ≡ true
         by true o h = cc

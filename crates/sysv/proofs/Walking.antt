@@ -14,10 +14,11 @@ use native.Mathlib.Omega.{arith}
 use lib.Dec.{ltb}
 use lib.ListN.{length}
 use borrow.Author.Tests.{ne-eqb, lt-ltb, le-ltb}
+use Rattle.symbol.specs.Table.{symbolIndex}
 use Rattle.lookup.specs.declared.Answer.{Answer}
 use Rattle.lookup.specs.declared.Answer.the-variants.{Found, Missing}
 use Rattle.lookup.specs.Pick.{firstOf, upTo}
-use Rattle.lookup.specs.Wanted.{answerOf, walk, symbolIndex}
+use Rattle.lookup.specs.Wanted.{answerOf, walk}
 use Rattle.sysv.specs.Table.{visited}
 
 module _ (match : ℕ → Bool) (chains : ℕ) (chain : ℕ → ℕ) (start : ℕ) where

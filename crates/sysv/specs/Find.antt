@@ -4,9 +4,9 @@ use Prim.Native.Nat.{ℕ}
 use mathlib.Core.Bool.{cond}
 use Rattle.endian.specs.declared.kinds.Class.{Class}
 use Rattle.endian.specs.declared.kinds.Order.{Order}
-use Rattle.endian.specs.Refusals.{anyLong, tooLong}
+use Rattle.endian.specs.Refusals.{anyLong, tooLong, unlessRefused}
 use Rattle.lookup.specs.declared.Answer.{Answer}
-use Rattle.lookup.specs.Wanted.{Parts, Asked, allParts, wanted, unlessFault}
+use Rattle.lookup.specs.Wanted.{Parts, Asked, allParts, wanted}
 use Rattle.sysv_header.specs.Header.{fault}
 use Rattle.sysv.specs.Table.{Table, lookup}
 use Rattle.sysv.specs.Layout.{tableOf}
@@ -17,4 +17,4 @@ sysvTable class order p = tableOf order (p .table) class (p .symbols) (p .string
 unfoldable pub sysvFind : Class → Order → Parts → Asked → (hash : ℕ) → Answer
 sysvFind class order p asked hash =
     cond (anyLong (allParts p asked)) (Answer.Refused tooLong)
-    (unlessFault (fault order (p .table)) (lookup (sysvTable class order p) hash (wanted class order p asked)))
+    (unlessRefused Answer.Refused (fault order (p .table)) (lookup (sysvTable class order p) hash (wanted class order p asked)))

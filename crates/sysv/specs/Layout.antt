@@ -5,7 +5,7 @@ use lib.ListN.{length}
 use Rattle.endian.specs.declared.kinds.Class.{Class}
 use Rattle.endian.specs.declared.kinds.Order.{Order}
 use Rattle.endian.specs.Word.{wordAt}
-use Rattle.symbol.specs.Table.{symbolSize}
+use Rattle.symbol.specs.Table.{symbolsIn}
 use Rattle.lookup.specs.Wanted.{nameOf}
 use Rattle.sysv_header.specs.Header.{bucketCountOf, chainCountOf, chainsAt}
 use Rattle.sysv.specs.Table.{Table}
@@ -16,6 +16,6 @@ tableOf order bytes class symbols strings = record {
   chainCount = chainCountOf order bytes;
   bucket = λ b. wordAt order 4 bytes (8 + b * 4);
   chain = λ i. wordAt order 4 bytes (chainsAt order bytes + i * 4);
-  count = length symbols / symbolSize class;
+  count = symbolsIn class symbols;
   name = nameOf class order symbols strings;
 }

@@ -19,16 +19,16 @@ use borrow.Author.Tests.{eq-eqb, ne-eqb}
 use Rattle.endian.specs.declared.kinds.Class.{Class}
 use Rattle.endian.specs.declared.kinds.Order.{Order}
 use Rattle.endian.specs.declared.refusals.Refusal.{Refusal}
-use Rattle.endian.specs.Refusals.{limit, anyLong, tooLong}
+use Rattle.endian.specs.Refusals.{limit, anyLong, tooLong, unlessRefused}
 use Rattle.endian.specs.Word.{wordAt}
 use Rattle.strings.proofs.Meaning.{same-refl}
-use Rattle.symbol.specs.Table.{symbolSize}
+use Rattle.symbol.specs.Table.{symbolSize, symbolIndex}
 use Rattle.version_match.specs.Match.{matching}
 use Rattle.name_hash.specs.Hash.{sysvHash}
 use Rattle.lookup.specs.declared.Answer.{Answer}
 use Rattle.lookup.specs.declared.Answer.the-variants.{Found, Missing, Refused}
 use Rattle.lookup.specs.Pick.{firstOf, upTo}
-use Rattle.lookup.specs.Wanted.{Parts, Asked, allParts, nameOf, symbolIndex, wanted, wantedIn, walk, answerOf}
+use Rattle.lookup.specs.Wanted.{Parts, Asked, allParts, nameOf, wanted, wantedIn, walk, answerOf}
 use Rattle.lookup.proofs.Picking.{All, all-map, by-test, none-firstOf}
 use Rattle.lookup.proofs.Distinct.{wanted-named, wanted-fits}
 use Rattle.sysv.specs.Table.{Table, numbers, lookup}
@@ -37,7 +37,7 @@ use Rattle.sysv.specs.Find.{sysvTable, sysvFind}
 use Rattle.sysv_check.specs.declared.table.Checked.{Checked}
 use Rattle.sysv_check.specs.Count.{times}
 use Rattle.sysv_check.specs.Rules.{firstGlobal, Chain, check}
-use Rattle.sysv_check.specs.Check.{sysvCheck, unlessRefused}
+use Rattle.sysv_check.specs.Check.{sysvCheck}
 use Rattle.sysv_check.proofs.Counting.{times-all, times-append, all-times}
 use Rattle.sysv_check.proofs.Ruled.{Ruled, rules}
 use Rattle.sysv_check.proofs.Standing.{on-chain, stands}
@@ -93,7 +93,7 @@ not-long : (b : Bool) (x : Checked) → cond b (Checked.Refused tooLong) x ≡ C
 not-long true x h = (cc, cc)
 not-long false x h = (refl, h)
 
-no-fault : (o : Option Refusal) (x : Checked) → unlessRefused o x ≡ Checked.Accepted → (o ≡ none) × (x ≡ Checked.Accepted)
+no-fault : (o : Option Refusal) (x : Checked) → unlessRefused Checked.Refused o x ≡ Checked.Accepted → (o ≡ none) × (x ≡ Checked.Accepted)
 no-fault none x h = (refl, h)
 no-fault (some r) x h = (cc, cc)
 
@@ -129,7 +129,7 @@ module _ (class : Class) (order : Order) (p : Parts) (asked : Asked)
   unfolding sysvCheck
   past =
       let a = not-long (anyLong (p .table ∷ p .symbols ∷ p .strings ∷ []))
-      (unlessRefused (fault order (p .table)) (check t firstGlobal)) good in
+      (unlessRefused Checked.Refused (fault order (p .table)) (check t firstGlobal)) good in
       let f = no-fault (fault order (p .table)) (check t firstGlobal) (a .1) in
       (a .0, f .0, f .1)
 

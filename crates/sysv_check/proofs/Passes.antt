@@ -15,7 +15,7 @@ use borrow.Author.Tests.{leb-true}
 use Rattle.endian.specs.declared.kinds.Class.{Class}
 use Rattle.endian.specs.declared.kinds.Order.{Order}
 use Rattle.endian.specs.declared.refusals.Refusal.{Refusal}
-use Rattle.endian.specs.Refusals.{limit, tooLong}
+use Rattle.endian.specs.Refusals.{limit, tooLong, unlessRefused}
 use Rattle.endian.specs.Word.{wordAt}
 use Rattle.symbol.specs.declared.table.SymbolCount.{SymbolCount}
 use Rattle.symbol.specs.Table.{symbolSize, symbolCount}
@@ -32,7 +32,7 @@ use Rattle.sysv_check.specs.declared.table.Checked.{Checked}
 use Rattle.sysv_check.specs.Rules.{firstGlobal, t1, t2, t3, check}
 use Rattle.sysv_check_chains.specs.Pass.{hashOf, mayStand, allSpent}
 use Rattle.sysv_check.specs.Pass.{shaped}
-use Rattle.sysv_check.specs.Check.{unlessRefused, sysvCheck}
+use Rattle.sysv_check.specs.Check.{sysvCheck}
 use Rattle.sysv_check.proofs.Counted.{counted}
 use Rattle.sysv_check.proofs.Readings.{every-searched, every-missed}
 
@@ -109,7 +109,7 @@ module _ (class : Class) (order : Order) (table symbols strings : List ℕ) wher
       by (ltb limit (length table)) (ltb limit (length symbols)) (ltb limit (length strings)) (fault order table) _
     where
       by : (a b c : Bool) (o : Option Refusal) (checked : Checked)
-          → cond (cond a true (cond b true (cond c true false))) (Checked.Refused tooLong) (unlessRefused o checked)
+          → cond (cond a true (cond b true (cond c true false))) (Checked.Refused tooLong) (unlessRefused Checked.Refused o checked)
           ≡ cond c (Checked.Refused tooLong)
           (checkFrom (cond b (SymbolCount.Refused tooLong) (SymbolCount.Symbols (length symbols / symbolSize class)))
           (cond a (HeaderAt.Refused tooLong) (headerUnless o (headerOf order table))) checked)

@@ -10,10 +10,11 @@ use mathlib.Core.List.{List, [], _∷_, _++_}
 use mathlib.Core.Option.{Option, some, none, Option·none-ne-some}
 use native.Mathlib.Omega.{arith}
 use lib.ListN.{length}
+use Rattle.symbol.specs.Table.{symbolIndex}
 use Rattle.symbol.specs.declared.table.SymbolIndex.{SymbolIndex}
 use Rattle.lookup.specs.declared.Answer.the-variants.{Found, Missing}
 use Rattle.lookup.specs.Pick.{firstOf, upTo}
-use Rattle.lookup.specs.Wanted.{answerOf, walk, symbolIndex}
+use Rattle.lookup.specs.Wanted.{answerOf, walk}
 use Rattle.lookup.proofs.Picking.{All, by-test, none-firstOf, firstOf-none}
 
 found-same : (i j m n : ℕ) → Found (symbolIndex i) m ≡ Found (symbolIndex j) n → (i ≡ j) × (m ≡ n)

@@ -7,8 +7,7 @@ use mathlib.Core.List.{List}
 use borrow.Author.Needs.{needs}
 use Rattle.endian.specs.declared.kinds.Class.{Class}
 use Rattle.endian.specs.declared.kinds.Order.{Order}
-use Rattle.symbol.specs.Table.{symbolAt}
-use Rattle.lookup.specs.Wanted.{symbolIndex}
+use Rattle.symbol.specs.Table.{symbolAt, symbolIndex}
 use Rattle.readable_names.specs.Readable.{readableIn, startsBelow}
 use Rattle.readable_names.proofs.Reading.{name-readable}
 use Rattle.lookup.proofs.Searching.{Searching, searching-start, searching-next, searching-here, searching-end}
