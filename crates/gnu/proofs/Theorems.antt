@@ -42,7 +42,7 @@ module _ (i probes : ℕ) where
   past-long true a h = cc
   past-long false a h = h
 
-  past-fault : (o : Option Refusal) (a : Answer) → unlessRefused Answer.Refused o a ≡ Found (symbolIndex i) probes → a ≡ Found (symbolIndex i) probes
+  past-fault : (o : Option Refusal) (a : Answer) → unlessRefused Refused o a ≡ Found (symbolIndex i) probes → a ≡ Found (symbolIndex i) probes
   past-fault none a h = h
   past-fault (some r) a h = cc
 

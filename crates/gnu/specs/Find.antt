@@ -18,4 +18,4 @@ gnuTable class order p = tableOf class order (p .table) (p .symbols) (p .strings
 unfoldable pub gnuFind : Class → Order → Parts → Asked → (hash : ℕ) → Answer
 gnuFind class order p asked hash =
     cond (anyLong (allParts p asked)) (Refused tooLong)
-    (unlessRefused Answer.Refused (fault class order (p .table)) (lookup (gnuTable class order p) hash (wanted class order p asked)))
+    (unlessRefused Refused (fault class order (p .table)) (lookup (gnuTable class order p) hash (wanted class order p asked)))

@@ -190,7 +190,7 @@ accept class order p most h =
     (λ short. go (fault class order (p .table)) refl short (rw short at h))
   where
     go : (o : Option Refusal) → fault class order (p .table) ≡ o → anyLong (p .table ∷ p .symbols ∷ p .strings ∷ []) ≡ false
-        → unlessRefused Checked.Refused o (check (gnuTable class order p)) ≡ Accepted most → Accept class order p most
+        → unlessRefused Checked·Refused o (check (gnuTable class order p)) ≡ Accepted most → Accept class order p most
     go none none-there short h = record { table = h; header = none-there; short = short }
     go (some r) there short h = absurd (refused-accepted r most h)
 

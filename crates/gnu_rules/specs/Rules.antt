@@ -139,4 +139,4 @@ check t = verdict (longest t) 1 (findings t)
 unfoldable pub gnuCheck : Class → Order → (table symbols strings : List ℕ) → Checked
 gnuCheck class order table symbols strings =
     cond (anyLong (table ∷ symbols ∷ strings ∷ [])) (Refused tooLong)
-    (unlessRefused Checked.Refused (fault class order table) (check (tableOf class order table symbols strings)))
+    (unlessRefused Refused (fault class order table) (check (tableOf class order table symbols strings)))

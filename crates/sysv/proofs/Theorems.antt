@@ -40,7 +40,7 @@ module _ (class : Class) (order : Order) (p : Parts) where
       where
         by : (long : Bool) (o : Option Refusal)
             → cond long (Refused tooLong)
-            (unlessRefused Answer.Refused o (lookup (sysvTable class order p) hash (wanted class order p asked)))
+            (unlessRefused Refused o (lookup (sysvTable class order p) hash (wanted class order p asked)))
             ≡ Found (symbolIndex i) probes
             → wanted class order p asked i ≡ true
         by true o h = cc

@@ -17,4 +17,4 @@ use Rattle.sysv_check.specs.Rules.{firstGlobal, check}
 unfoldable pub sysvCheck : Class → Order → (table symbols strings : List ℕ) → Checked
 sysvCheck class order table symbols strings =
     cond (anyLong (table ∷ symbols ∷ strings ∷ [])) (Refused tooLong)
-    (unlessRefused Checked.Refused (fault order table) (check (tableOf order table class symbols strings) firstGlobal))
+    (unlessRefused Refused (fault order table) (check (tableOf order table class symbols strings) firstGlobal))
