@@ -29,7 +29,7 @@ fn main() {
 }
 
 /// What to say of a target for which there is no archive.
-fn other_target(arch: &str, os: &str, width: &str) -> Option<String> {
+pub fn other_target(arch: &str, os: &str, width: &str) -> Option<String> {
     let ours = (arch, os, width) == ("x86_64", "linux", "64");
     (!ours).then(|| {
         format!(
@@ -41,7 +41,7 @@ fn other_target(arch: &str, os: &str, width: &str) -> Option<String> {
 }
 
 /// What to say where there is no archive.
-fn missing(archive: &Path) -> Option<String> {
+pub fn missing(archive: &Path) -> Option<String> {
     (!archive.exists()).then(|| {
         format!(
             "{} is missing: run `make archive` first, or set FETULOMBO_LIB to its folder",
