@@ -16,7 +16,6 @@ use std::error::Error;
 use std::process::ExitCode;
 
 const HASH: u32 = 5;
-const DYNSYM: u32 = 11;
 const GNU_HASH: u32 = 0x6fff_fff6;
 const VERDEF: u32 = 0x6fff_fffd;
 const VERNEED: u32 = 0x6fff_fffe;
@@ -45,78 +44,47 @@ fn main() -> ExitCode {
 
 /// What is printed of a library and these names.
 pub fn report(file: &[u8], names: &[&str]) -> Result<String, Box<dyn Error>> {
-    if !file.starts_with(b"\x7fELF") || file.len() < 52 {
-        return Err("no ELF file".into());
-    }
-    let class = Class::from_ident(file[4])?;
-    let order = Order::from_ident(file[5])?;
-    let sections = sections(class, order, file)?;
-    let of_kind = |kind| sections.iter().find(|section| section.kind == kind);
-    let linked = |section: &Section| sections.get(section.link).ok_or("a link to no section");
-    let part = |section: Option<&Section>| match section {
-        None => Ok(&[][..]),
-        Some(section) => section.part(file),
-    };
-
-    let dynsym = of_kind(DYNSYM).ok_or("no dynamic symbols")?;
-    let symbols = Symbols {
-        symbols: part(Some(dynsym))?,
-        strings: part(Some(linked(dynsym)?))?,
-    };
-
-    // One slice of strings serves both version sections, so they must be linked to one.
-    let (verdef, verneed) = (of_kind(VERDEF), of_kind(VERNEED));
-    let strings = match (verdef, verneed) {
-        (None, None) => &[],
-        (Some(one), None) | (None, Some(one)) => part(Some(linked(one)?))?,
-        (Some(one), Some(other)) if one.link == other.link => part(Some(linked(one)?))?,
-        _ => return Err("version sections with strings of their own".into()),
-    };
+    let parts = parts(file)?;
+    let (order, strings) = (parts.order, parts.version_strings);
     let mut store = vec![0; LARGEST_STORE];
-    let highest = versions_parse(order, part(verdef)?, part(verneed)?, strings, &mut store)?;
+    let highest = versions_parse(order, parts.verdef, parts.verneed, strings, &mut store)?;
     store.truncate(store_len(highest));
     let versions = Versions {
-        versyms: part(of_kind(VERSYM))?,
+        versyms: parts.versyms,
         store: &store,
         strings,
     };
-
-    let table = match (of_kind(GNU_HASH), of_kind(HASH)) {
-        (Some(gnu), _) => Table::Gnu(GnuTable::parse(class, order, part(Some(gnu))?)?),
-        // Words of 8 bytes are out of scope, and would be read as something else.
-        (None, Some(sysv)) if sysv.entry_size == 8 => {
-            return Err("a SysV table whose words have 8 bytes".into());
-        }
-        (None, Some(sysv)) => Table::Sysv(SysvTable::parse(class, order, part(Some(sysv))?)?),
-        (None, None) => return Err("no hash table".into()),
-    };
-
-    let mut text = table.verdict(symbols)?;
+    let mut text = parts.table.verdict(parts.symbols)?;
     for asked in names {
-        let (name, need) = match asked.split_once('@') {
-            None => (*asked, None),
-            Some((name, version)) => (name, Some(Needed::new(version.as_bytes())?)),
-        };
-        let (name, asked_text) = (name.as_bytes(), format!("{asked}: "));
-        let found = match table {
-            Table::Gnu(table) => table.find(symbols, versions, name, need)?,
-            Table::Sysv(table) => table.find(symbols, versions, name, need)?,
-        };
-        text += &asked_text;
-        text += &match found.symbol {
-            None => "nothing".to_string(),
-            Some(index) => {
-                let symbol = symbol_at(class, order, symbols.symbols, index)?;
-                let version = version(versions, order, index)?;
-                format!("symbol {}, {version}, value {:#x}", index.0, symbol.value)
-            }
-        };
-        text += &match found.probes {
-            1 => ", 1 probe\n".to_string(),
-            probes => format!(", {probes} probes\n"),
-        };
+        text += &line(&parts, versions, asked)?;
     }
     Ok(text)
+}
+
+/// What is printed of a name.
+fn line(parts: &Parts<'_>, versions: Versions<'_>, asked: &str) -> Result<String, Refusal> {
+    let (name, need) = match asked.split_once('@') {
+        None => (asked, None),
+        Some((name, version)) => (name, Some(Needed::new(version.as_bytes())?)),
+    };
+    let (symbols, name) = (parts.symbols, name.as_bytes());
+    let found = match parts.table {
+        Table::Gnu(table) => table.find(symbols, versions, name, need)?,
+        Table::Sysv(table) => table.find(symbols, versions, name, need)?,
+    };
+    let probes = match found.probes {
+        1 => "1 probe".to_string(),
+        probes => format!("{probes} probes"),
+    };
+    let Some(index) = found.symbol else {
+        return Ok(format!("{asked}: nothing, {probes}\n"));
+    };
+    let value = symbol_at(parts.class, parts.order, symbols.symbols, index)?.value;
+    let version = version(versions, parts.order, index)?;
+    let number = index.0;
+    Ok(format!(
+        "{asked}: symbol {number}, {version}, value {value:#x}, {probes}\n"
+    ))
 }
 
 /// The version of a symbol that was found, in words.
@@ -130,6 +98,74 @@ fn version(versions: Versions<'_>, order: Order, index: SymbolIndex) -> Result<S
     Ok(format!("{}{hidden}", String::from_utf8_lossy(name)))
 }
 
+/// The parts of a library that a lookup is lent.
+struct Parts<'file> {
+    class: Class,
+    order: Order,
+    table: Table<'file>,
+    symbols: Symbols<'file>,
+    versyms: &'file [u8],
+    verdef: &'file [u8],
+    verneed: &'file [u8],
+    version_strings: &'file [u8],
+}
+
+/// A section's link names the section that it speaks of: a table's its symbols, theirs the strings.
+fn parts(file: &[u8]) -> Result<Parts<'_>, Box<dyn Error>> {
+    if !file.starts_with(b"\x7fELF") || file.len() < 52 {
+        return Err("no ELF file".into());
+    }
+    let class = Class::from_ident(file[4])?;
+    let order = Order::from_ident(file[5])?;
+    let sections = sections(class, order, file)?;
+    let of_kind = |kind| sections.iter().find(|section| section.kind == kind);
+    let linked = |section: &Section| sections.get(section.link).ok_or("a link to no section");
+    let bytes = |section: Option<&Section>| section.map_or(Ok(&[][..]), |s| s.bytes(file));
+
+    let (section, table) = match (of_kind(GNU_HASH), of_kind(HASH)) {
+        (Some(gnu), _) => {
+            let table = GnuTable::parse(class, order, gnu.bytes(file)?)?;
+            (gnu, Table::Gnu(table))
+        }
+        // Words of 8 bytes are out of scope, and would be read as something else.
+        (None, Some(sysv)) if sysv.entry_size == 8 => {
+            return Err("a SysV table whose words have 8 bytes".into());
+        }
+        (None, Some(sysv)) => {
+            let table = SysvTable::parse(class, order, sysv.bytes(file)?)?;
+            (sysv, Table::Sysv(table))
+        }
+        (None, None) => return Err("no hash table".into()),
+    };
+    let symbols = linked(section)?;
+    let versyms = of_kind(VERSYM);
+    if versyms.is_some_and(|versyms| versyms.link != section.link) {
+        return Err("versyms of other symbols".into());
+    }
+    // The archive takes one slice of strings for both version sections.
+    let (verdef, verneed) = (of_kind(VERDEF), of_kind(VERNEED));
+    let version_strings = match (verdef, verneed) {
+        (None, None) => None,
+        (Some(one), None) | (None, Some(one)) => Some(linked(one)?),
+        (Some(one), Some(other)) if one.link == other.link => Some(linked(one)?),
+        _ => return Err("version sections with strings of their own".into()),
+    };
+    Ok(Parts {
+        class,
+        order,
+        table,
+        symbols: Symbols {
+            symbols: symbols.bytes(file)?,
+            strings: linked(symbols)?.bytes(file)?,
+        },
+        versyms: bytes(versyms)?,
+        verdef: bytes(verdef)?,
+        verneed: bytes(verneed)?,
+        version_strings: bytes(version_strings)?,
+    })
+}
+
+#[derive(Clone, Copy)]
 enum Table<'data> {
     Gnu(GnuTable<'data>),
     Sysv(SysvTable<'data>),
@@ -167,7 +203,7 @@ struct Section {
 
 impl Section {
     /// Its bytes in the file.
-    fn part<'file>(&self, file: &'file [u8]) -> Result<&'file [u8], &'static str> {
+    fn bytes<'file>(&self, file: &'file [u8]) -> Result<&'file [u8], &'static str> {
         slice(file, self.offset, self.size).ok_or("a section lies outside the file")
     }
 }

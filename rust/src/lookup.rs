@@ -162,7 +162,8 @@ impl<'data> GnuTable<'data> {
     }
 
     /// The same by a hash that is at hand, so that a name that is looked up in many libraries is hashed
-    /// once. A hash that is not the name's may miss a symbol; it never finds one of another name or version.
+    /// once. A hash that is not the name's may miss a symbol; it never finds one of another name or
+    /// version.
     ///
     /// ```
     /// # use fetulombo::{*, sample::*};
@@ -245,7 +246,8 @@ impl<'data> SysvTable<'data> {
     }
 
     /// The same by a hash that is at hand, so that a name that is looked up in many libraries is hashed
-    /// once. A hash that is not the name's may miss a symbol; it never finds one of another name or version.
+    /// once. A hash that is not the name's may miss a symbol; it never finds one of another name or
+    /// version.
     ///
     /// ```
     /// # use fetulombo::{*, sample::*};

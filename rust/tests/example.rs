@@ -257,6 +257,12 @@ fn what_cannot_be_looked_up_is_said() {
         );
         let none = made.file((1, made.gnu(), 0));
         assert_eq!(refused(&none), "no hash table");
+        // The link of the versyms is that of another section.
+        let mut other = file.clone();
+        let record = file.len() - 2 * (16 + 6 * made.address());
+        let link = record + 8 + 4 * made.address();
+        other[link..link + 4].copy_from_slice(&made.bytes(&[(3, 4)]));
+        assert_eq!(refused(&other), "versyms of other symbols");
         // Words of 8 bytes.
         let wide = made.bytes(&[1, 3, 1, 0, 2, 0].map(|word| (word, 8)));
         let wide = made.file((5, wide, 8));
