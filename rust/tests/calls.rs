@@ -517,6 +517,10 @@ fn sysv_lookups() {
         assert_eq!(find(&table[..23], b"a"), Err(Refusal::BAD_SYSV_CHAINS));
         let parsed = SysvTable::parse(Class::Elf32, order, &table).unwrap();
         assert_eq!(parsed.length(), 3);
+        // Two buckets: the SysV hash of `a` is odd and that of `b` even, their GNU hashes are not.
+        let table = bytes_of(order, &[2, 3, 2, 1, 0, 0, 0]);
+        assert_eq!(find(&table, b"a"), found(Some(SymbolIndex(1)), 1));
+        assert_eq!(find(&table, b"b"), found(Some(SymbolIndex(2)), 1));
     }
 }
 
