@@ -4,9 +4,9 @@
 use crate::Run;
 use crate::inputs::{is64, lists};
 use crate::libraries::{DYNSYM, GNU_HASH, Library, VERDEF, VERNEED, VERSYM};
-use crate::report::hex;
+use crate::report::{Answer, hex};
 use crate::symbols::size;
-use fetulombo::{Class, LIMIT, Order, gnu_hash, sysv_hash};
+use fetulombo::{Class, GnuHash, LIMIT, Order, SysvHash};
 
 pub fn compare(run: &mut Run) {
     let all: Vec<u8> = (0..=255).collect();
@@ -30,10 +30,20 @@ pub fn compare(run: &mut Run) {
     }
 }
 
+fn gnu_hash(name: &[u8]) -> Answer<u32> {
+    let hash = GnuHash::of(name).map_err(|refusal| refusal.number())?;
+    Ok(hash.number())
+}
+
+fn sysv_hash(name: &[u8]) -> Answer<u32> {
+    let hash = SysvHash::of(name).map_err(|refusal| refusal.number())?;
+    Ok(hash.number())
+}
+
 fn one(run: &mut Run, name: &[u8]) {
     let fits = name.len() <= LIMIT;
     let rule = |hash: fn(&[u8]) -> u32| if fits { Ok(hash(name)) } else { Err(1) };
-    let ours = gnu_hash(name).map_err(|refusal| refusal.number());
+    let ours = gnu_hash(name);
     run.report.same(
         "gnu_hash, public rule",
         ours,
@@ -41,7 +51,7 @@ fn one(run: &mut Run, name: &[u8]) {
         |_| "hash",
         || hex(name),
     );
-    let ours = sysv_hash(name).map_err(|refusal| refusal.number());
+    let ours = sysv_hash(name);
     run.report.same(
         "sysv_hash, public rule",
         ours,
@@ -79,9 +89,7 @@ fn gnu_values(run: &mut Run, library: &Library) {
             let name = &strings[start..start + length];
             run.report.same(
                 "gnu_hash, real tables",
-                gnu_hash(name)
-                    .map(|hash| hash | 1)
-                    .map_err(|refusal| refusal.number()),
+                gnu_hash(name).map(|hash| hash | 1),
                 Ok(word(table, values + (index - base) * 4) as u32 | 1),
                 |_| "hash",
                 || hex(name),
@@ -118,7 +126,7 @@ fn version_hashes(run: &mut Run, library: &Library) {
         let name = &strings[name.0..name.0 + name.1];
         run.report.same(
             "sysv_hash, real versions",
-            sysv_hash(name).map_err(|refusal| refusal.number()),
+            sysv_hash(name),
             Ok(hash),
             |_| "hash",
             || hex(name),

@@ -12,8 +12,8 @@ use crate::tables::{
 };
 use crate::versions::{self, put};
 use fetulombo::{
-    Class, ENTRY, GnuTable, LARGEST_STORE, LIMIT, Needed, Order, Symbols as OurSymbols, SysvTable,
-    Versions, Wanted,
+    Class, ENTRY, GnuHash, GnuTable, LARGEST_STORE, LIMIT, Needed, Order, Symbols as OurSymbols,
+    SysvHash, SysvTable, Versions,
 };
 
 #[derive(Debug, Clone, Copy, PartialEq, Eq, PartialOrd, Ord)]
@@ -136,7 +136,6 @@ pub fn one(run: &mut Run, kind: Kind, made: &Symbols, table: &[u8], asked: &[Ask
     let none = oracle::Versions::none(is64(made.class), big(made.order));
     let theirs = theirs.as_ref().unwrap_or(&none);
     let versions = Versions {
-        order: made.order,
         versyms: if store.is_empty() && theirs.entries() == none.entries() {
             &[]
         } else {
@@ -165,17 +164,18 @@ fn lookup(
         symbols: &made.symbols,
         strings: &made.strings,
     };
-    let need = asked.need.as_ref().map(|(name, hash)| (&name[..], *hash));
-    let wanted = Wanted {
-        name: &asked.name,
-        hash: asked.hash,
-        need: need.map(|(name, hash)| Needed { name, hash }),
-    };
+    let need = asked.need.as_ref();
+    let need = need.map(|(name, hash)| Needed::with_hash(name, SysvHash::from_number(*hash)));
+    let name = &asked.name[..];
     let ours = match kind {
-        Kind::Gnu => GnuTable::parse(class, order, table)
-            .and_then(|table| table.find(symbols, versions, wanted)),
-        Kind::Sysv => SysvTable::parse(class, order, table)
-            .and_then(|table| table.find(symbols, versions, wanted)),
+        Kind::Gnu => GnuTable::parse(class, order, table).and_then(|table| {
+            let hash = GnuHash::from_number(asked.hash);
+            table.find_hashed(symbols, versions, name, hash, need)
+        }),
+        Kind::Sysv => SysvTable::parse(class, order, table).and_then(|table| {
+            let hash = SysvHash::from_number(asked.hash);
+            table.find_hashed(symbols, versions, name, hash, need)
+        }),
     };
     let ours = ours
         .map(|found| (found.symbol.map(|symbol| symbol.0), found.probes))
@@ -397,24 +397,20 @@ fn limits(run: &mut Run) {
                 strings: lent(2),
             };
             let versions = Versions {
-                order: Order::Little,
                 versyms: lent(3),
                 store: &[],
                 strings: lent(4),
             };
-            let wanted = Wanted {
-                name: lent(5),
-                hash: 0,
-                need: Some(Needed {
-                    name: lent(6),
-                    hash: 0,
-                }),
-            };
+            let need = Some(Needed::with_hash(lent(6), SysvHash::from_number(0)));
             let (class, order) = (Class::Elf32, Order::Little);
-            let gnu = GnuTable::parse(class, order, lent(0))
-                .and_then(|table| table.find(symbols, versions, wanted));
-            let sysv = SysvTable::parse(class, order, lent(0))
-                .and_then(|table| table.find(symbols, versions, wanted));
+            let gnu = GnuTable::parse(class, order, lent(0)).and_then(|table| {
+                let hash = GnuHash::from_number(0);
+                table.find_hashed(symbols, versions, lent(5), hash, need)
+            });
+            let sysv = SysvTable::parse(class, order, lent(0)).and_then(|table| {
+                let hash = SysvHash::from_number(0);
+                table.find_hashed(symbols, versions, lent(5), hash, need)
+            });
             let fits = if refused { Err(1) } else { Ok(()) };
             for (name, ours) in [("gnu find", gnu), ("sysv find", sysv)] {
                 let ours = ours.map(|_| ()).map_err(|refusal| refusal.number());

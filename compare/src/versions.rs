@@ -7,7 +7,8 @@ use crate::libraries::{VERDEF, VERNEED, VERSYM};
 use crate::plain;
 use crate::report::{Answer, fitting, hex};
 use fetulombo::{
-    ENTRY, LARGEST_STORE, LIMIT, Needed, Order, SymbolIndex, Version, VersionIndex, Versions,
+    ENTRY, LARGEST_STORE, LIMIT, Needed, Order, SymbolIndex, SysvHash, Version, VersionIndex,
+    VersionPlace, Versions,
 };
 use oracle::Entry;
 
@@ -205,7 +206,6 @@ fn one(run: &mut Run, order: Order, parts: &Parts, whole: bool) {
         return;
     };
     let versions = Versions {
-        order,
         versyms: &parts.versyms,
         store: &store,
         strings: &parts.strings,
@@ -217,21 +217,22 @@ fn one(run: &mut Run, order: Order, parts: &Parts, whole: bool) {
     for index in (0..=last).chain([0x7fff, 0x8000, 0xffff]) {
         entry(run, versions, &theirs, index);
     }
-    symbols(run, versions, &theirs, highest);
+    symbols(run, order, versions, &theirs, highest);
 }
 
 fn entry(run: &mut Run, versions: Versions<'_>, theirs: &oracle::Versions<'_>, index: u16) {
-    let place = |place: core::ops::Range<usize>| (place.start, place.len());
+    let start = versions.strings.as_ptr() as usize;
+    let place = |part: &[u8]| (part.as_ptr() as usize - start, part.len());
     let ours = versions.entry(VersionIndex(index)).map_err(|r| r.number());
     let ours = ours.map(|found| match found {
         None => Entry::Special,
         Some(Version::Definition { hash, name }) => Entry::Version {
-            hash,
+            hash: hash.number(),
             name: place(name),
             file: None,
         },
         Some(Version::Need { hash, name, file }) => Entry::Version {
-            hash,
+            hash: hash.number(),
             name: place(name),
             file: Some(place(file)),
         },
@@ -260,13 +261,19 @@ fn entry(run: &mut Run, versions: Versions<'_>, theirs: &oracle::Versions<'_>, i
 
 /// The version of each symbol, and its match with no need, with its own version as the need, and
 /// with needs that are a little different.
-fn symbols(run: &mut Run, versions: Versions<'_>, theirs: &oracle::Versions<'_>, highest: u16) {
+fn symbols(
+    run: &mut Run,
+    order: Order,
+    versions: Versions<'_>,
+    theirs: &oracle::Versions<'_>,
+    highest: u16,
+) {
     let count = versions.versyms.len() / 2;
     for symbol in (0..count.min(12) as u32 + 2).chain([u32::MAX]) {
         let input = || format!("symbol {symbol} versyms {}", hex(versions.versyms));
         let versym = theirs.version_index(symbol);
         let ours = versions
-            .version_of(SymbolIndex(symbol))
+            .version_of(order, SymbolIndex(symbol))
             .map(|versym| (versym.index.0, versym.hidden))
             .map_err(|refusal| refusal.number());
         run.report.same(
@@ -295,8 +302,9 @@ fn symbols(run: &mut Run, versions: Versions<'_>, theirs: &oracle::Versions<'_>,
         for need in [None, Some((&name[..], hash))] {
             let ours = versions
                 .matches(
+                    order,
                     SymbolIndex(symbol),
-                    need.map(|(name, hash)| Needed { name, hash }),
+                    need.map(|(name, hash)| Needed::with_hash(name, SysvHash::from_number(hash))),
                 )
                 .map_err(|refusal| refusal.number());
             let original =
@@ -407,17 +415,16 @@ fn long_tables(run: &mut Run, long: &[u8]) {
     for length in [LIMIT - 1, LIMIT, LIMIT + 1] {
         let input = || format!("a part of {length}");
         let part = &long[..length];
+        let order = Order::Little;
         let versions = Versions {
-            order: Order::Little,
             versyms: &[2, 0],
             store: &store,
             strings: part,
         };
-        let entry = versions.entry(VersionIndex(2)).map_err(|r| r.number());
-        let definition = Some(Version::Definition {
-            hash: 7,
-            name: 0..0,
-        });
+        let entry = versions.entry_place(VersionIndex(2));
+        let entry = entry.map_err(|r| r.number());
+        let hash = SysvHash::from_number(7);
+        let definition = Some(VersionPlace::Definition { hash, name: 0..0 });
         run.report.same(
             "version entry",
             entry,
@@ -425,7 +432,7 @@ fn long_tables(run: &mut Run, long: &[u8]) {
             |_| "definition",
             input,
         );
-        let need = |name| Some(Needed { name, hash: 7 });
+        let need = |name| Some(Needed::with_hash(name, hash));
         for (versions, need, yes) in [
             (versions, need(&[]), true),
             (
@@ -451,7 +458,7 @@ fn long_tables(run: &mut Run, long: &[u8]) {
                 (true, true) => "need: yes",
                 (true, false) => "need: no",
             };
-            let ours = versions.matches(SymbolIndex(0), need);
+            let ours = versions.matches(order, SymbolIndex(0), need);
             let ours = ours.map_err(|r| r.number());
             run.report
                 .same("version matches", ours, fitting(length, yes), kind, input);
@@ -460,7 +467,7 @@ fn long_tables(run: &mut Run, long: &[u8]) {
             versyms: part,
             ..versions
         };
-        let versym = versions.version_of(SymbolIndex(0));
+        let versym = versions.version_of(order, SymbolIndex(0));
         run.report.same(
             "version_of",
             versym.map(|versym| versym.index.0).map_err(|r| r.number()),

@@ -2,27 +2,72 @@ use crate::raw::{Check, fetulombo_gnu_check, fetulombo_sysv_check};
 use crate::{Class, GnuTable, Order, Refusal, Symbols, SysvTable};
 
 /// What the GNU checker says of a table and its symbols.
+///
+/// The rules, n being the symbols: G1 the first hashed symbol is one of 1 to n; G2 the bloom words are a
+/// power of two; G3 there is a bucket; G4 the bloom shift is at most 31; G5 each hashed symbol has a value;
+/// G6 its name can be read; G7 its value is the name's hash but for the low bit; G8 both its bloom bits are
+/// set; G9 each bucket holds its lowest symbol, or 0 without one, and its symbols are consecutive; G10 the
+/// low bit of a value is 1 exactly at a bucket's last symbol.
+///
+/// ```
+/// # use fetulombo::{*, sample::*};
+/// let table = GnuTable::parse(Class::Elf32, Order::Little, GNU)?;
+/// let others = Symbols { strings: b"\0export_lot\0", ..LIBRARY };
+/// assert_eq!(table.check(LIBRARY), Ok(GnuVerdict::Accepted { longest: 2 }));
+/// assert_eq!(table.check(others), Ok(GnuVerdict::Broken { rule: 7, place: 1 }));
+/// # Ok::<(), Refusal>(())
+/// ```
 #[derive(Debug, Clone, Copy, PartialEq, Eq, Hash)]
 pub enum GnuVerdict {
-    /// With the most hashed symbols in one bucket: no lookup makes more probes.
-    Accepted { longest: u64 },
-    /// The first of the rules G1 to G10 that is broken, and its lowest symbol (G6 to G8, G10) or
-    /// bucket (G9), or 0.
-    Broken { rule: u8, place: u32 },
+    /// No rule is broken.
+    Accepted {
+        /// The most hashed symbols in one bucket: no lookup makes more probes.
+        longest: u64,
+    },
+    /// The first rule that is broken.
+    Broken {
+        /// Its number, 1 to 10.
+        rule: u8,
+        /// Its lowest symbol (G6 to G8, G10) or bucket (G9), or 0.
+        place: u32,
+    },
 }
 
 /// What the SysV checker says of a table and its symbols.
+///
+/// The rules: T1 there are symbols, as many chains, and a bucket; T2 the names of all symbols but the first
+/// can be read; T3 each chain ends in 0, and each symbol but the first stands on exactly one chain, once,
+/// that of its hash.
+///
+/// ```
+/// # use fetulombo::{*, sample::*};
+/// let table = SysvTable::parse(Class::Elf32, Order::Little, SYSV)?;
+/// let fewer = Symbols { symbols: &SYMBOLS[..32], ..LIBRARY };
+/// assert_eq!(table.check(LIBRARY), Ok(SysvVerdict::Accepted));
+/// assert_eq!(table.check(fewer), Ok(SysvVerdict::Broken { rule: 1 }));
+/// # Ok::<(), Refusal>(())
+/// ```
 #[derive(Debug, Clone, Copy, PartialEq, Eq, Hash)]
 pub enum SysvVerdict {
+    /// No rule is broken.
     Accepted,
-    /// The first of the rules T1 to T3 that is broken.
+    /// The first rule that is broken.
     Broken {
+        /// Its number, 1 to 3.
         rule: u8,
     },
 }
 
 impl GnuTable<'_> {
-    /// Whether a lookup in this table finds exactly the lowest symbol that matches.
+    /// Whether a lookup by the name's own hash finds exactly the lowest hashed symbol that matches.
+    /// Refused: [`Refusal::TOO_LONG`].
+    ///
+    /// ```
+    /// # use fetulombo::{*, sample::*};
+    /// let table = GnuTable::parse(Class::Elf32, Order::Little, &GNU[..28])?;
+    /// assert_eq!(table.check(LIBRARY), Ok(GnuVerdict::Broken { rule: 5, place: 0 }));
+    /// # Ok::<(), Refusal>(())
+    /// ```
     pub fn check(&self, symbols: Symbols<'_>) -> Result<GnuVerdict, Refusal> {
         let table = (self.class, self.order, self.table);
         let answer = check(fetulombo_gnu_check, table, symbols)?;
@@ -39,7 +84,16 @@ impl GnuTable<'_> {
 }
 
 impl SysvTable<'_> {
-    /// Whether a lookup in this table finds a symbol exactly if one matches.
+    /// Whether a lookup by the name's own hash finds a symbol exactly if one matches. Refused:
+    /// [`Refusal::TOO_LONG`].
+    ///
+    /// ```
+    /// # use fetulombo::{*, sample::*};
+    /// let table = SysvTable::parse(Class::Elf32, Order::Little, SYSV)?;
+    /// let unreadable = Symbols { strings: b"\0import_lot", ..LIBRARY };
+    /// assert_eq!(table.check(unreadable), Ok(SysvVerdict::Broken { rule: 2 }));
+    /// # Ok::<(), Refusal>(())
+    /// ```
     pub fn check(&self, symbols: Symbols<'_>) -> Result<SysvVerdict, Refusal> {
         let table = (self.class, self.order, self.table);
         let answer = check(fetulombo_sysv_check, table, symbols)?;

@@ -4,6 +4,13 @@ use core::fmt;
 use core::num::NonZeroU32;
 
 /// Why there is no answer: a number, and nothing else.
+///
+/// ```
+/// use fetulombo::{Refusal, string_at};
+/// let refusal = string_at(b"", 0).unwrap_err();
+/// assert_eq!(refusal, Refusal::NO_STRING);
+/// assert_eq!(refusal.to_string(), "refused (36): no string stands at that offset");
+/// ```
 #[derive(Clone, Copy, PartialEq, Eq, PartialOrd, Ord, Hash)]
 pub struct Refusal(NonZeroU32);
 
@@ -15,7 +22,14 @@ macro_rules! refusals {
                 pub const $name: Refusal = Refusal(NonZeroU32::new($number).unwrap());
             )*
 
-            /// All of them, in order.
+            /// All of them, in order: 1 to 37, and 39.
+            ///
+            /// ```
+            /// use fetulombo::Refusal;
+            /// assert_eq!(Refusal::ALL[36], Refusal::NO_SYMBOL);
+            /// assert_eq!(Refusal::ALL[37], Refusal::UNKNOWN_KIND);
+            /// assert_eq!(Refusal::ALL.len(), 38);
+            /// ```
             pub const ALL: &[Refusal] = &[$(Refusal::$name,)*];
 
             fn text(self) -> &'static str {
@@ -66,9 +80,17 @@ refusals! {
     BAD_NOTE_PLACE 35 "a note segment lies outside the file",
     NO_STRING 36 "no string stands at that offset",
     NO_SYMBOL 37 "no symbol has that number",
+    UNKNOWN_KIND 39 "a class or a byte order that is none",
 }
 
 impl Refusal {
+    /// The number.
+    ///
+    /// ```
+    /// use fetulombo::Refusal;
+    /// assert_eq!(Refusal::TOO_LONG.number(), 1);
+    /// assert_eq!(Refusal::UNKNOWN_KIND.number(), 39);
+    /// ```
     pub const fn number(self) -> u32 {
         self.0.get()
     }

@@ -41,8 +41,53 @@ fn hashes() {
         ("printf", 0x156b2bb8, 0x077905a6),
         ("exit", 0x7c967e3f, 0x0006cf04),
     ] {
-        assert_eq!(gnu_hash(name.as_bytes()), Ok(gnu), "{name}");
-        assert_eq!(sysv_hash(name.as_bytes()), Ok(sysv), "{name}");
+        let name = name.as_bytes();
+        assert_eq!(GnuHash::of(name).map(GnuHash::number), Ok(gnu));
+        assert_eq!(GnuHash::of(name), Ok(GnuHash::from_number(gnu)));
+        assert_eq!(SysvHash::of(name).map(SysvHash::number), Ok(sysv));
+        assert_eq!(SysvHash::of(name), Ok(SysvHash::from_number(sysv)));
+    }
+}
+
+#[test]
+fn class_and_order_are_elfs_own_numbers() {
+    for (byte, class, order) in [
+        (0, None, None),
+        (1, Some(Class::Elf32), Some(Order::Little)),
+        (2, Some(Class::Elf64), Some(Order::Big)),
+        (3, None, None),
+        (255, None, None),
+    ] {
+        assert_eq!(
+            Class::from_ident(byte),
+            class.ok_or(Refusal::UNKNOWN_KIND),
+            "{byte}"
+        );
+        assert_eq!(
+            Order::from_ident(byte),
+            order.ok_or(Refusal::UNKNOWN_KIND),
+            "{byte}"
+        );
+    }
+    let others = (0..=255).filter(|&byte| Class::from_ident(byte).is_err());
+    assert_eq!(others.count(), 254);
+    let others = (0..=255).filter(|&byte| Order::from_ident(byte).is_err());
+    assert_eq!(others.count(), 254);
+}
+
+/// The test's own program and the library of `make run`, both ELF64 and little.
+#[test]
+fn class_and_order_of_real_files() {
+    let own = std::env::current_exe().unwrap();
+    let library = concat!(env!("CARGO_MANIFEST_DIR"), "/../fixtures/lot/liblot.so");
+    for path in [own, library.into()] {
+        let file = std::fs::read(path).unwrap();
+        assert_eq!(file[..4], *b"\x7fELF");
+        assert_eq!(Class::from_ident(file[4]), Ok(Class::Elf64));
+        assert_eq!(Order::from_ident(file[5]), Ok(Order::Little));
+        // e_machine is 62, x86-64.
+        let order = Order::from_ident(file[5]).unwrap();
+        assert_eq!(u16_at(order, &file[..64], 18), Ok(62));
     }
 }
 
@@ -179,54 +224,213 @@ fn version_table() {
     assert_eq!(store[12..24], [1, 7, 1, 1, 0, 0, 2, 8, 3, 1, 5, 1]);
     assert_eq!(store[24..], [0, 0]);
 
+    let order = Order::Big;
     let versions = Versions {
-        order: Order::Big,
         versyms: &[0, 0, 0x80, 2, 0, 3],
         store: &store,
         strings,
     };
+    let (seven, eight) = (SysvHash::from_number(7), SysvHash::from_number(8));
     let definition = Version::Definition {
-        hash: 7,
-        name: 1..2,
+        hash: seven,
+        name: b"a",
     };
     assert_eq!(versions.entry(VersionIndex(2)), Ok(Some(definition)));
+    let place = VersionPlace::Definition {
+        hash: seven,
+        name: 1..2,
+    };
+    assert_eq!(versions.entry_place(VersionIndex(2)), Ok(Some(place)));
     let need = Version::Need {
-        hash: 8,
+        hash: eight,
+        name: b"b",
+        file: b"f",
+    };
+    assert_eq!(versions.entry(VersionIndex(3)), Ok(Some(need)));
+    let place = VersionPlace::Need {
+        hash: eight,
         name: 3..4,
         file: 5..6,
     };
-    assert_eq!(versions.entry(VersionIndex(3)), Ok(Some(need)));
+    assert_eq!(versions.entry_place(VersionIndex(3)), Ok(Some(place)));
     assert_eq!(versions.entry(VersionIndex(1)), Ok(None));
-    assert_eq!(
-        versions.entry(VersionIndex(4)),
-        Err(Refusal::BAD_VERSION_INDEX)
-    );
+    assert_eq!(versions.entry_place(VersionIndex(1)), Ok(None));
+    let refused = Err(Refusal::BAD_VERSION_INDEX);
+    assert_eq!(versions.entry(VersionIndex(4)).map(drop), refused);
+    assert_eq!(versions.entry_place(VersionIndex(4)).map(drop), refused);
     let versym = Versym {
         index: VersionIndex(2),
         hidden: true,
     };
-    assert_eq!(versions.version_of(SymbolIndex(1)), Ok(versym));
+    assert_eq!(versions.version_of(order, SymbolIndex(1)), Ok(versym));
     let versym = Versym {
         index: VersionIndex(1),
         hidden: false,
     };
-    assert_eq!(versions.version_of(SymbolIndex(3)), Ok(versym));
-    let a = Some(Needed {
-        name: b"a",
-        hash: 7,
-    });
-    assert_eq!(versions.matches(SymbolIndex(1), a), Ok(true));
-    assert_eq!(versions.matches(SymbolIndex(1), None), Ok(false));
-    assert_eq!(versions.matches(SymbolIndex(2), None), Ok(true));
-    assert_eq!(versions.matches(SymbolIndex(2), a), Ok(false));
-    assert_eq!(Versions::NONE.matches(SymbolIndex(1), None), Ok(true));
-    assert_eq!(Versions::NONE.matches(SymbolIndex(1), a), Ok(false));
+    assert_eq!(versions.version_of(order, SymbolIndex(3)), Ok(versym));
+    let a = Some(Needed::with_hash(b"a", seven));
+    assert_eq!(versions.matches(order, SymbolIndex(1), a), Ok(true));
+    assert_eq!(versions.matches(order, SymbolIndex(1), None), Ok(false));
+    assert_eq!(versions.matches(order, SymbolIndex(2), None), Ok(true));
+    assert_eq!(versions.matches(order, SymbolIndex(2), a), Ok(false));
+    assert_eq!(
+        Versions::NONE.matches(order, SymbolIndex(1), None),
+        Ok(true)
+    );
+    assert_eq!(Versions::NONE.matches(order, SymbolIndex(1), a), Ok(false));
+
+    // The record's hash is not the name's, so a need that hashes the name does not match.
+    let a = Needed::new(b"a").unwrap();
+    assert_ne!(a, Needed::with_hash(b"a", seven));
+    assert_eq!(versions.matches(order, SymbolIndex(1), Some(a)), Ok(false));
 
     // A refusal leaves 0 throughout.
     let mut store = [9; 23];
-    let refused = versions_parse(Order::Big, &verdef, &verneed, strings, &mut store);
+    let refused = versions_parse(order, &verdef, &verneed, strings, &mut store);
     assert_eq!(refused, Err(Refusal::STORE_TOO_SMALL));
     assert_eq!(store, [0; 23]);
+    let refused = store_needed(order, &verdef, &verneed, strings, &mut store);
+    assert_eq!(refused, Err(Refusal::STORE_TOO_SMALL));
+    let mut scratch = vec![9; LARGEST_STORE];
+    let needed = store_needed(order, &verdef, &verneed, strings, &mut scratch);
+    assert_eq!(needed, Ok(24));
+    let needed = store_needed(order, &[], &[], strings, &mut scratch);
+    assert_eq!(needed, Ok(6));
+    let refused = store_needed(order, &verdef[..19], &[], strings, &mut scratch);
+    assert_eq!(refused, Err(Refusal::VERDEF_SHORT));
+}
+
+/// For every highest index: so many numbers pass, and one less is refused.
+#[test]
+fn the_store_has_as_many_numbers_as_are_needed() {
+    assert_eq!(LARGEST_STORE, 393_216);
+    let mut store = vec![0; LARGEST_STORE];
+    for index in [0, 1, 2, 3, 255, 256, 0x7fff, 0x8000, 0xfffe, 0xffff] {
+        let mut verdef = vec![0, 1, 0, 0];
+        verdef.extend(u16::to_be_bytes(index));
+        verdef.extend([0, 1, 0, 0, 0, 7, 0, 0, 0, 20, 0, 0, 0, 0]);
+        verdef.extend([0, 0, 0, 0, 0, 0, 0, 0]);
+        let parse = |store: &mut [u32]| versions_parse(Order::Big, &verdef, &[], b"\0", store);
+        let needed = store_len(VersionIndex(index));
+        assert_eq!(needed, (index as usize + 1) * ENTRY);
+        assert_eq!(parse(&mut store[..needed]), Ok(VersionIndex(index)));
+        let refused = parse(&mut store[..needed - 1]);
+        assert_eq!(refused, Err(Refusal::STORE_TOO_SMALL));
+        let asked = store_needed(Order::Big, &verdef, &[], b"\0", &mut store);
+        assert_eq!(asked, Ok(needed));
+    }
+}
+
+/// The fields of a version section, big: each a value and its width.
+fn section(fields: &[(u32, usize)]) -> Vec<u8> {
+    let bytes = |&(value, width): &(u32, usize)| value.to_be_bytes()[4 - width..].to_vec();
+    fields.iter().flat_map(bytes).collect()
+}
+
+/// A Verdef of index 2 with one Verdaux.
+fn verdef([aux, next, name, aux_next]: [u32; 4]) -> Vec<u8> {
+    let head = [(1, 2), (0, 2), (2, 2), (1, 2), (7, 4), (aux, 4), (next, 4)];
+    section(&[&head[..], &[(name, 4), (aux_next, 4)]].concat())
+}
+
+/// A Verneed of so many Vernauxs of index 3, each with its name and its next.
+fn verneed([file, aux, next]: [u32; 3], auxs: &[[u32; 2]]) -> Vec<u8> {
+    let count = auxs.len() as u32;
+    let mut fields = vec![(1, 2), (count, 2), (file, 4), (aux, 4), (next, 4)];
+    for &[name, next] in auxs {
+        fields.extend([(8, 4), (0, 2), (3, 2), (name, 4), (next, 4)]);
+    }
+    section(&fields)
+}
+
+/// Sections with more than one fault answer the one that is reached first: each pass goes record by record.
+#[test]
+fn refusals_of_version_parsing_come_record_by_record() {
+    let far = 1_000;
+    let parse = |verdef: &[u8], verneed: &[u8]| {
+        let mut store = [9; 24];
+        let answer = versions_parse(Order::Big, verdef, verneed, b"\0a\0", &mut store);
+        assert!(answer.is_ok() || store == [0; 24]);
+        answer.map(|index| index.0).map_err(Refusal::number)
+    };
+    let good_def = verdef([20, 0, 1, 0]);
+    let good_need = verneed([1, 16, 0], &[[1, 0]]);
+    assert_eq!(parse(&good_def, &good_need), Ok(3));
+    // In one record aux comes before next.
+    assert_eq!(parse(&verdef([far, far, 1, 0]), &[]), Err(9));
+    assert_eq!(parse(&[], &verneed([1, far, far], &[[1, 0]])), Err(14));
+    // A definition comes before a need, whatever its place.
+    let late = [verdef([20, 28, 1, 0]), verdef([20, far, 1, 0])].concat();
+    assert_eq!(parse(&late, &good_need[..15]), Err(10));
+    // The Vernauxs of a need come before the next need.
+    let needs = |aux_next, aux| {
+        let first = verneed([1, 16, 32], &[[1, aux_next]]);
+        [first, verneed([1, aux, 0], &[[1, 0]])].concat()
+    };
+    assert_eq!(parse(&[], &needs(far, far)), Err(17));
+    assert_eq!(parse(&[], &needs(0, far)), Err(14));
+    // The first pass over both lists, the store, then the second pass.
+    let nameless = verdef([20, 0, far, 0]);
+    assert_eq!(parse(&nameless, &good_need[..15]), Err(13));
+    let mut small = [9; 17];
+    let answer = versions_parse(Order::Big, &nameless, &[], b"\0a\0", &mut small);
+    assert_eq!(answer, Err(Refusal::STORE_TOO_SMALL));
+    assert_eq!(parse(&nameless, &good_need), Err(18));
+    // The name of the first definition comes before the aux of the second.
+    let two = |name, aux| [verdef([20, 28, name, 0]), verdef([aux, 0, 1, 0])].concat();
+    assert_eq!(parse(&two(far, 28), &[]), Err(18));
+    assert_eq!(parse(&two(1, 28), &[]), Err(11));
+    // In a Verdaux next comes before the name.
+    assert_eq!(parse(&verdef([20, 0, far, far]), &[]), Err(12));
+    // In a Vernaux the name comes before the file; the next Vernaux after both.
+    let need = |file, names: [u32; 2]| verneed([file, 16, 0], &[[names[0], 16], [names[1], 0]]);
+    assert_eq!(parse(&[], &need(far, [far, 1])), Err(20));
+    assert_eq!(parse(&[], &need(far, [1, far])), Err(19));
+    assert_eq!(parse(&[], &need(1, [1, far])), Err(20));
+    // What a definition names comes before what a need names.
+    assert_eq!(parse(&nameless, &need(far, [far, 1])), Err(18));
+}
+
+/// Without a need: 0 and 1 match hidden or not, an invalid index never, any other if it is not hidden.
+#[test]
+fn a_lookup_without_a_need() {
+    let mut store = [0; 24];
+    store[12..16].copy_from_slice(&[1, 7, 0, 0]);
+    // Entry 3 is of kind 0, and there is none behind 4.
+    for (versym, matches) in [
+        (0, true),
+        (0x8000, true),
+        (1, true),
+        (0x8001, true),
+        (2, true),
+        (0x8002, false),
+        (3, false),
+        (0x8003, false),
+        (4, false),
+        (0x7fff, false),
+        (0xffff, false),
+    ] {
+        for (order, versyms) in [
+            (Order::Little, u16::to_le_bytes(versym)),
+            (Order::Big, u16::to_be_bytes(versym)),
+        ] {
+            let versions = Versions {
+                versyms: &[[0, 0], versyms].concat(),
+                store: &store,
+                strings: b"",
+            };
+            let symbol = SymbolIndex(1);
+            assert_eq!(versions.matches(order, symbol, None), Ok(matches));
+            let table = bytes_of(order, &[1, 2, 1, 0, 0]);
+            let table = SysvTable::parse(Class::Elf32, order, &table).unwrap();
+            let symbols = Symbols {
+                symbols: &bytes_of(order, &[0, 0, 0, 0, 1, 0, 0, 0]),
+                strings: b"\0a\0",
+            };
+            let found = table.find(symbols, versions, b"a", None).unwrap();
+            assert_eq!(found.symbol, matches.then_some(symbol), "{versym:#x}");
+        }
+    }
 }
 
 fn bytes_of(order: Order, words: &[u32]) -> Vec<u8> {
@@ -248,9 +452,12 @@ fn gnu_lookups() {
             strings: b"\0a\0",
         };
         let find = |table: &[u8], name: &[u8]| {
-            let wanted = Wanted::gnu(name, None)?;
             let table = GnuTable::parse(Class::Elf32, order, table)?;
-            table.find(symbols, Versions::NONE, wanted)
+            let found = table.find(symbols, Versions::NONE, name, None);
+            let hash = GnuHash::of(name)?;
+            let hashed = table.find_hashed(symbols, Versions::NONE, name, hash, None);
+            assert_eq!(found, hashed);
+            found
         };
         let found = |symbol, probes| Ok(Found { symbol, probes });
         let one = table(65_600, 5);
@@ -266,8 +473,20 @@ fn gnu_lookups() {
         let parsed = GnuTable::parse(Class::Elf32, order, &one).unwrap();
         assert_eq!(parsed.symbol_base(), SymbolIndex(1));
         assert_eq!(parsed.length(), Ok(Some(2)));
-        let empty = GnuTable::parse(Class::Elf32, order, &one[..24]).unwrap();
-        assert_eq!(empty.length(), Ok(None));
+        let length = |words: &[u32]| {
+            let table = bytes_of(order, words);
+            GnuTable::parse(Class::Elf32, order, &table)?.length()
+        };
+        assert_eq!(length(&[1, 1, 1, 5, 0, 1, 6, 7]), Ok(Some(3)));
+        // No end; symbol base 0; no bucket; the highest bucket below the base; past 32 bits.
+        assert_eq!(length(&[1, 1, 1, 5, 0, 1, 6]), Ok(None));
+        assert_eq!(length(&[1, 1, 1, 5, 0, 1]), Ok(None));
+        assert_eq!(length(&[1, 0, 1, 5, 0, 1, 6, 7]), Ok(None));
+        assert_eq!(length(&[0, 1, 1, 5, 0, 7]), Ok(None));
+        assert_eq!(length(&[1, 2, 1, 5, 0, 1, 7]), Ok(None));
+        let last = u32::MAX - 1;
+        assert_eq!(length(&[1, last, 1, 5, 0, last, 7]), Ok(Some(u32::MAX)));
+        assert_eq!(length(&[1, last, 1, 5, 0, last, 6, 7]), Ok(None));
     }
 }
 
@@ -282,9 +501,12 @@ fn sysv_lookups() {
             strings: b"\0a\0b\0",
         };
         let find = |table: &[u8], name: &[u8]| {
-            let wanted = Wanted::sysv(name, None)?;
             let table = SysvTable::parse(Class::Elf32, order, table)?;
-            table.find(symbols, Versions::NONE, wanted)
+            let found = table.find(symbols, Versions::NONE, name, None);
+            let hash = SysvHash::of(name)?;
+            let hashed = table.find_hashed(symbols, Versions::NONE, name, hash, None);
+            assert_eq!(found, hashed);
+            found
         };
         let found = |symbol, probes| Ok(Found { symbol, probes });
         assert_eq!(find(&table, b"a"), found(Some(SymbolIndex(1)), 2));
@@ -295,6 +517,10 @@ fn sysv_lookups() {
         assert_eq!(find(&table[..23], b"a"), Err(Refusal::BAD_SYSV_CHAINS));
         let parsed = SysvTable::parse(Class::Elf32, order, &table).unwrap();
         assert_eq!(parsed.length(), 3);
+        // Two buckets: the SysV hash of `a` is odd and that of `b` even, their GNU hashes are not.
+        let table = bytes_of(order, &[2, 3, 2, 1, 0, 0, 0]);
+        assert_eq!(find(&table, b"a"), found(Some(SymbolIndex(1)), 1));
+        assert_eq!(find(&table, b"b"), found(Some(SymbolIndex(2)), 1));
     }
 }
 
@@ -338,37 +564,154 @@ fn checkers() {
     }
 }
 
+/// A hash that was read from a file may be another name's: it may miss a symbol, and never finds one of
+/// another name.
+#[test]
+fn a_wrong_hash_finds_no_other_name() {
+    use fetulombo::sample::{GNU, LIBRARY, SYSV, VERSIONS};
+    let gnu = GnuTable::parse(Class::Elf32, Order::Little, GNU).unwrap();
+    let sysv = SysvTable::parse(Class::Elf32, Order::Little, SYSV).unwrap();
+    let symbol = |found: Result<Found, Refusal>| found.unwrap().symbol;
+    let (name, other) = (b"import_lot", b"export_lot");
+    let number = SysvHash::of(name).unwrap().number();
+    let hash = GnuHash::from_number(number);
+    let found = gnu.find_hashed(LIBRARY, VERSIONS, name, hash, None);
+    assert_eq!(symbol(found), None);
+    let hash = GnuHash::of(name).unwrap();
+    let found = gnu.find_hashed(LIBRARY, VERSIONS, other, hash, None);
+    assert_eq!(symbol(found), None);
+    let found = gnu.find_hashed(LIBRARY, VERSIONS, name, hash, None);
+    assert_eq!(symbol(found), Some(SymbolIndex(2)));
+    let hash = SysvHash::of(name).unwrap();
+    let found = sysv.find_hashed(LIBRARY, VERSIONS, other, hash, None);
+    assert_eq!(symbol(found), None);
+    // One bucket has every hash.
+    let hash = SysvHash::from_number(hash.number() ^ 1);
+    let found = sysv.find_hashed(LIBRARY, VERSIONS, name, hash, None);
+    assert_eq!(symbol(found), Some(SymbolIndex(2)));
+}
+
 /// The accident's library: `import_lot` as LOT_1.0, hidden, and as LOT_2.0.
 #[test]
 fn a_lookup_binds_the_version_that_it_states() {
-    let order = Order::Little;
-    let hash = gnu_hash(b"import_lot").unwrap();
-    let table = bytes_of(order, &[1, 1, 1, 5, u32::MAX, 1, hash & !1, hash | 1]);
-    let symbols = bytes_of(order, &[0, 0, 0, 0, 1, 0, 0, 0, 1, 0, 0, 0]);
-    let symbols = Symbols {
-        symbols: &symbols,
-        strings: b"\0import_lot\0",
+    use fetulombo::sample::{GNU, LIBRARY, SYSV, VERSIONS};
+    let gnu = GnuTable::parse(Class::Elf32, Order::Little, GNU).unwrap();
+    let sysv = SysvTable::parse(Class::Elf32, Order::Little, SYSV).unwrap();
+    let find = |need| {
+        let name = b"import_lot";
+        let found = gnu.find(LIBRARY, VERSIONS, name, need).unwrap();
+        assert_eq!(sysv.find(LIBRARY, VERSIONS, name, need), Ok(found));
+        found.symbol
     };
-    let mut store = [0; 24];
-    store[12..16].copy_from_slice(&[1, 7, 0, 7]);
-    store[18..22].copy_from_slice(&[1, 8, 7, 7]);
-    let versions = Versions {
-        order,
-        versyms: &[0, 0, 2, 0x80, 3, 0],
-        store: &store,
-        strings: b"LOT_1.0LOT_2.0",
-    };
-    let table = GnuTable::parse(Class::Elf32, order, &table).unwrap();
-    let find = |need: Option<(&[u8], u32)>| {
-        let need = need.map(|(name, hash)| Needed { name, hash });
-        let wanted = Wanted::gnu(b"import_lot", need).unwrap();
-        table.find(symbols, versions, wanted).unwrap().symbol
-    };
-    assert_eq!(find(Some((b"LOT_1.0", 7))), Some(SymbolIndex(1)));
-    assert_eq!(find(Some((b"LOT_2.0", 8))), Some(SymbolIndex(2)));
-    assert_eq!(find(Some((b"LOT_2.0", 7))), None);
-    assert_eq!(find(Some((b"LOT_3.0", 8))), None);
+    let stated = |name| find(Some(Needed::new(name).unwrap()));
+    assert_eq!(stated(b"LOT_1.0"), Some(SymbolIndex(1)));
+    assert_eq!(stated(b"LOT_2.0"), Some(SymbolIndex(2)));
+    assert_eq!(stated(b"LOT_3.0"), None);
+    assert_eq!(stated(b"SUM_1"), None);
+    assert_eq!(stated(b""), None);
     assert_eq!(find(None), Some(SymbolIndex(2)));
+    // The hash of the one with the name of the other is neither.
+    let hash = SysvHash::of(b"LOT_1.0").unwrap();
+    assert_eq!(find(Some(Needed::with_hash(b"LOT_2.0", hash))), None);
+    assert_eq!(
+        find(Some(Needed::with_hash(b"LOT_1.0", hash))),
+        Some(SymbolIndex(1))
+    );
+}
+
+/// The sample of the documentation is a library: its hashes, its store and its tables are right.
+#[test]
+fn the_sample_is_right() {
+    use fetulombo::sample::*;
+    let (class, order) = (Class::Elf32, Order::Little);
+    let mut store = [9; 30];
+    let highest = versions_parse(order, VERDEF, VERNEED, STRINGS, &mut store);
+    assert_eq!(highest, Ok(VersionIndex(4)));
+    assert_eq!(store, *STORE);
+    for index in 2..=4 {
+        let (Some(Version::Definition { hash, name }) | Some(Version::Need { hash, name, .. })) =
+            VERSIONS.entry(VersionIndex(index)).unwrap()
+        else {
+            panic!("a version")
+        };
+        assert_eq!(SysvHash::of(name), Ok(hash));
+    }
+    let gnu = GnuTable::parse(class, order, GNU).unwrap();
+    assert_eq!(gnu.check(LIBRARY), Ok(GnuVerdict::Accepted { longest: 2 }));
+    let sysv = SysvTable::parse(class, order, SYSV).unwrap();
+    assert_eq!(sysv.check(LIBRARY), Ok(SysvVerdict::Accepted));
+    assert_eq!(NOTES, &FILE[28..]);
+    assert_eq!(segment_count(class, SEGMENTS), Ok(4));
+}
+
+/// What is answered lies in the lent bytes, and is no copy.
+#[test]
+fn answers_are_parts_of_what_was_lent() {
+    use fetulombo::sample::*;
+    let (class, order) = (Class::Elf32, Order::Little);
+    fn at(part: &[u8], whole: &[u8]) -> core::ops::Range<usize> {
+        let start = part.as_ptr() as usize - whole.as_ptr() as usize;
+        start..start + part.len()
+    }
+    let Some(Version::Need { name, file, .. }) = VERSIONS.entry(VersionIndex(4)).unwrap() else {
+        panic!("a need")
+    };
+    assert_eq!((at(name, STRINGS), at(file, STRINGS)), (38..43, 28..37));
+    let name = symbol_name(class, order, SYMBOLS, STRINGS, SymbolIndex(1)).unwrap();
+    assert_eq!(at(name, STRINGS), 1..11);
+    assert_eq!(at(string_at(STRINGS, 20).unwrap(), STRINGS), 20..27);
+    let padded = b"GNU\0";
+    assert_eq!(at(trimmed(padded).unwrap(), padded), 0..3);
+    let note = notes(order, 4, NOTES).unwrap().next().unwrap().unwrap();
+    assert_eq!(at(note.name(), NOTES), 12..15);
+    assert_eq!(at(note.descriptor(), NOTES), 16..28);
+    let mut properties = note.gnu_properties(class).unwrap();
+    let property = properties.next().unwrap().unwrap();
+    assert_eq!(at(property.bytes(), NOTES), 24..28);
+    let segment = |number| segment_at(class, order, SEGMENTS, number).unwrap();
+    let name = segment(0).interpreter(FILE).unwrap().unwrap();
+    assert_eq!(at(name, FILE), 0..6);
+    let dynamic = segment(1).dynamic(class, order, FILE).unwrap().unwrap();
+    assert_eq!(at(dynamic.bytes(), FILE), dynamic.place);
+    assert_eq!(at(segment(2).data(FILE).unwrap(), FILE), 28..56);
+    let range = segment(3).data_range(FILE, 0x1004, 4).unwrap().unwrap();
+    assert_eq!(at(range, FILE), 4..8);
+    // Of the same bytes lent elsewhere, a part of those.
+    let copy = STRINGS.to_vec();
+    let versions = Versions {
+        strings: &copy,
+        ..VERSIONS
+    };
+    let Some(Version::Definition { name, .. }) = versions.entry(VersionIndex(2)).unwrap() else {
+        panic!("a definition")
+    };
+    assert_eq!(at(name, &copy), 12..19);
+}
+
+/// The functions keep nothing: many threads ask the same table at once, each with a store of its own.
+#[test]
+fn any_number_of_threads() {
+    use fetulombo::sample::*;
+    let ask = |turn: usize| {
+        for _ in 0..200 {
+            let mut store = [9; 30];
+            versions_parse(Order::Little, VERDEF, VERNEED, STRINGS, &mut store).unwrap();
+            let versions = Versions {
+                store: &store,
+                ..VERSIONS
+            };
+            let table = GnuTable::parse(Class::Elf32, Order::Little, GNU).unwrap();
+            let (name, symbol) = [(b"LOT_1.0", 1), (b"LOT_2.0", 2)][turn % 2];
+            let need = Some(Needed::new(name).unwrap());
+            let found = table.find(LIBRARY, versions, b"import_lot", need).unwrap();
+            assert_eq!(found.symbol, Some(SymbolIndex(symbol)));
+        }
+    };
+    std::thread::scope(|scope| {
+        for turn in 0..8 {
+            scope.spawn(move || ask(turn));
+        }
+    });
 }
 
 #[test]
@@ -478,8 +821,9 @@ fn too_long_comes_first() {
     assert_eq!(string_at(&part, u32::MAX).map(drop), long);
     assert_eq!(string_equals(&part, 0, b"").map(drop), long);
     assert_eq!(string_equals(b"", 0, &part).map(drop), long);
-    assert_eq!(gnu_hash(&part).map(drop), long);
-    assert_eq!(sysv_hash(&part).map(drop), long);
+    assert_eq!(GnuHash::of(&part).map(drop), long);
+    assert_eq!(SysvHash::of(&part).map(drop), long);
+    assert_eq!(Needed::new(&part).map(drop), long);
     assert_eq!(symbol_count(class, &part).map(drop), long);
     assert_eq!(
         symbol_at(class, order, &part, SymbolIndex(0)).map(drop),
@@ -504,38 +848,58 @@ fn too_long_comes_first() {
         long
     );
     assert_eq!(store, [0; 6]);
+    assert_eq!(
+        store_needed(order, b"", &part, b"", &mut store).map(drop),
+        long
+    );
     let versions = Versions {
         strings: &part,
         versyms: &part,
         ..Versions::NONE
     };
     assert_eq!(versions.entry(VersionIndex(0)).map(drop), long);
-    assert_eq!(versions.version_of(SymbolIndex(0)).map(drop), long);
-    assert_eq!(versions.matches(SymbolIndex(0), None).map(drop), long);
-    let need = Some(Needed {
-        name: &part,
-        hash: 0,
-    });
-    assert_eq!(Versions::NONE.matches(SymbolIndex(0), need).map(drop), long);
+    assert_eq!(versions.entry_place(VersionIndex(0)).map(drop), long);
+    assert_eq!(versions.version_of(order, SymbolIndex(0)).map(drop), long);
+    assert_eq!(
+        versions.matches(order, SymbolIndex(0), None).map(drop),
+        long
+    );
+    let none = SysvHash::from_number(0);
+    let need = Some(Needed::with_hash(&part, none));
+    assert_eq!(
+        Versions::NONE
+            .matches(order, SymbolIndex(0), need)
+            .map(drop),
+        long
+    );
     assert_eq!(GnuTable::parse(class, order, &part).map(drop), long);
     assert_eq!(SysvTable::parse(class, order, &part).map(drop), long);
-    let table = GnuTable::parse(class, order, &[0; 16]).unwrap();
-    let wanted = Wanted {
-        name: b"",
-        hash: 0,
-        need,
-    };
+    let gnu = GnuTable::parse(class, order, &[0; 16]).unwrap();
+    let sysv = SysvTable::parse(class, order, &[0; 16]).unwrap();
     let symbols = Symbols {
         symbols: b"",
         strings: b"",
     };
-    let found = table.find(symbols, Versions::NONE, wanted);
+    let short = Versions::NONE;
+    assert_eq!(gnu.find(symbols, short, b"", need).map(drop), long);
+    assert_eq!(sysv.find(symbols, short, b"", need).map(drop), long);
+    assert_eq!(gnu.find(symbols, short, &part, None).map(drop), long);
+    assert_eq!(sysv.find(symbols, short, &part, None).map(drop), long);
+    let hash = GnuHash::from_number(0);
+    let found = gnu.find_hashed(symbols, short, &part, hash, None);
     assert_eq!(found.map(drop), long);
+    let found = sysv.find_hashed(symbols, short, &part, none, None);
+    assert_eq!(found.map(drop), long);
+    assert_eq!(gnu.find(symbols, versions, b"", None).map(drop), long);
+    assert_eq!(sysv.find(symbols, versions, b"", None).map(drop), long);
     let symbols = Symbols {
         symbols: &part,
         ..symbols
     };
-    assert_eq!(table.check(symbols).map(drop), long);
+    assert_eq!(gnu.find(symbols, short, b"", None).map(drop), long);
+    assert_eq!(sysv.find(symbols, short, b"", None).map(drop), long);
+    assert_eq!(gnu.check(symbols).map(drop), long);
+    assert_eq!(sysv.check(symbols).map(drop), long);
     assert_eq!(segment_count(class, &part).map(drop), long);
     assert_eq!(segment_at(class, order, &part, 0).map(drop), long);
     assert_eq!(dynamic_entry(class, order, &part, 0).map(drop), long);
@@ -546,7 +910,7 @@ fn too_long_comes_first() {
     assert_eq!(segment.interpreter(&part).map(drop), long);
     assert_eq!(segment.notes(order, &part).map(drop), long);
     assert_eq!(string_at(&part[1..], 0), Ok(&b""[..]));
-    assert_eq!(gnu_hash(&part[1..]).map(drop), Ok(()));
+    assert_eq!(GnuHash::of(&part[1..]).map(drop), Ok(()));
 }
 
 #[test]
@@ -555,7 +919,9 @@ fn refusals_are_numbered_in_order() {
         .iter()
         .map(|refusal| refusal.number())
         .collect();
-    assert_eq!(numbers, (1..=37).collect::<Vec<u32>>());
+    assert_eq!(numbers, (1..=37).chain([39]).collect::<Vec<u32>>());
     let text = Refusal::NO_SYMBOL.to_string();
     assert_eq!(text, "refused (37): no symbol has that number");
+    let text = Refusal::UNKNOWN_KIND.to_string();
+    assert_eq!(text, "refused (39): a class or a byte order that is none");
 }
