@@ -536,7 +536,7 @@ static inline const char *fetulombo_refusal_text(uint64_t number) {
     case FETULOMBO_BAD_NOTE_PLACE: return "a note segment lies outside the file";
     case FETULOMBO_NO_STRING: return "no string stands at that offset";
     case FETULOMBO_NO_SYMBOL: return "no symbol has that number";
-    case FETULOMBO_UNKNOWN_KIND: return "a class or a byte order that ELF does not have";
+    case FETULOMBO_UNKNOWN_KIND: return "a class or a byte order that is none";
     default: return "a refusal of another version of the library";
     }
 }

@@ -939,7 +939,7 @@ static void texts(void) {
         }
     }
     same("text of 39", !strcmp(fetulombo_refusal_text(FETULOMBO_UNKNOWN_KIND),
-                               "a class or a byte order that ELF does not have"), 1);
+                               "a class or a byte order that is none"), 1);
     char version[32];
     snprintf(version, sizeof version, "%d.%d.%d", FETULOMBO_VERSION_MAJOR, FETULOMBO_VERSION_MINOR,
              FETULOMBO_VERSION_PATCH);
