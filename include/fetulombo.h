@@ -1,8 +1,8 @@
 /* Fetulombo: which symbol of an ELF library a name and a version bind to.
  * SPDX-License-Identifier: Apache-2.0 OR MIT
  *
- * Link libfetulombo.a. Its functions are proved, on the abstract machine of their language, to answer what
- * their definitions say; this header and the C calls are tested.
+ * For C99 or C++11 and later. Link libfetulombo.a. Its functions are proved, on the abstract machine of their
+ * language, to answer what their definitions say; this header and the C calls are tested.
  *
  * Two ways to call them. The functions of the archive take a pointer and a length for each part. The inline
  * functions at the end of this header take structs in which each part has its name: a fetulombo_library and
