@@ -805,6 +805,9 @@ static void kinds(void) {
             same(name, refusal_of(f, k, k, p, FETULOMBO_LIMIT + 1), FETULOMBO_TOO_LONG);
         }
     }
+    /* Also where the answer would be "not this kind". */
+    same("dynamic of another kind", fetulombo_segment_dynamic(0, p, 0, 1, 0, 0).refusal, FETULOMBO_UNKNOWN_KIND);
+    same("properties of another kind", fetulombo_gnu_properties(E32, 3, 4, p, 0, p, 0).refusal, FETULOMBO_UNKNOWN_KIND);
     /* A reader is then at its end, and the store is all 0. */
     same("note, next of no order", fetulombo_note_step(0, 4, p, 31, 0).next, 31);
     same("property, next of no class", fetulombo_property_step(3, FETULOMBO_LITTLE, p, 31, 0).next, 31);
