@@ -493,7 +493,18 @@ fetulombo_part fetulombo_segment_notes(const uint8_t *file, size_t file_length, 
                                        uint64_t filesz, uint64_t align);
 
 /* What follows is compiled where it is called. It names the parts, computes the hashes, and calls the functions
- * above; each answers, and refuses, as the function above that it calls. */
+ * above; each answers, and refuses, as the function above that it calls:
+ *
+ *     fetulombo_library library = {0};
+ *     library.elf_class = file[4];
+ *     library.order = file[5];
+ *     library.symbols = ...
+ *     fetulombo_number highest = fetulombo_library_parse_versions(&library, store, store_length);
+ *     fetulombo_check check = fetulombo_library_gnu_check(&library);
+ *     fetulombo_wanted wanted = fetulombo_want(fetulombo_text("import_lot"));
+ *     fetulombo_want_version(&wanted, fetulombo_text("LOT_2.0"));
+ *     fetulombo_lookup found = fetulombo_library_gnu_find(&library, &wanted);
+ */
 
 /* A refusal in words; 0 and numbers of no refusal have their words too. The text is never freed. */
 static inline const char *fetulombo_refusal_text(uint64_t number) {
