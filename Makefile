@@ -1,8 +1,11 @@
-# make run    proves and runs the program that shows the library at work
-# make test   everything: the gate and, beside it, the C and Rust tests of the archive and the comparison
-#             with the original where it is at hand
-# make record writes the lists of the replay programs anew, from the original
-# make speed  times the archive beside the original
+# make run        proves and runs the program that shows the library at work
+# make test       everything: the gate and, beside it, the C and Rust tests of the archive and the comparison
+#                 with the original where it is at hand
+# make install    installs the archive, the header and the pkg-config file below PREFIX (/usr/local); DESTDIR is put
+#                 before it. The archive is proved and built first, unless it is there and nothing has changed since
+# make uninstall  takes them away
+# make record     writes the lists of the replay programs anew, from the original
+# make speed      times the archive beside the original
 #
 # ORACLE is the folder of the original's build (../shared/oracle).
 
@@ -38,6 +41,7 @@ TOOLS := cc
 EMULATOR :=
 CC := cc
 AR := ar
+NM := nm
 BUILT := release
 else
 TRIPLE := x86_64-unknown-linux-gnu
@@ -46,6 +50,7 @@ RUSTC := $(firstword $(foreach r,$(shell which -a rustc),$(if $(wildcard $(shell
 EMULATOR := qemu-x86_64 $(if $(wildcard /lib64/ld-linux-x86-64.so.2),,-L /usr/x86_64-linux-gnu)
 CC := x86_64-linux-gnu-gcc
 AR := x86_64-linux-gnu-ar
+NM := x86_64-linux-gnu-nm
 TOOLS := $(and $(RUSTC),$(shell which $(CC)),$(shell which qemu-x86_64))
 BUILT := $(TRIPLE)/release
 export RUSTC
@@ -57,16 +62,35 @@ endif
 
 COMPARE := compare/target/$(BUILT)/compare
 
-.PHONY: run test proved archive calls comparison record speed clean
+# Where `make install` puts what.
+PREFIX ?= /usr/local
+LIBDIR ?= $(PREFIX)/lib
+INCLUDEDIR ?= $(PREFIX)/include
+DOCDIR ?= $(PREFIX)/share/doc/fetulombo
+LICENCES := LICENSE-APACHE LICENSE-MIT NOTICE
+VERSION = $(shell sed -n 's/^.define FETULOMBO_VERSION "\(.*\)"/\1/p' include/fetulombo.h)
+
+# What is not run is said, and said again before the verdict (tests/all).
+not_run = echo "NOT RUN: $(1)" | tee -a "$${NOT_RUN:-/dev/null}"
+
+.PHONY: run test words proved archive install uninstall calls comparison record speed clean
 
 # Without an emulator of ours, on another processor, what rt has found the program to write is printed.
 run:
-	rt check show
+	@echo "The program and what it needs are proved first: from a fresh clone about 3 minutes on two processors,"
+	@echo "a moment where nothing has changed since. What the prover says goes to target/run.log."
+	@mkdir -p target
+	@rt check show >target/run.log 2>&1 || { tail -n 3 target/run.log; \
+	  echo "FAILED: the program is not proved, or did not write what it must. The whole is in target/run.log."; exit 1; }
 	@echo
 	@$(if $(TOOLS),$(EMULATOR) target/bin/show,cat crates/show/stdout)
 
 test:
 	tests/all
+
+# What the pages say, held against the crates.
+words:
+	@if [ -x tests/believed ]; then tests/believed; fi
 
 proved:
 	rt check $(BELOW)
@@ -86,11 +110,31 @@ archive: $(if $(BESIDE_GATE),,proved)
 	cd $(OBJECTS) && for e in $(EXPORTS); do $(AR) x ../staticlib/libexport_$$e.a || exit; done
 	$(AR) rcs $(ARCHIVE) $(EXPORTS:%=$(OBJECTS)/export_%.o)
 
+# For `make install`: the archive that is there, unless a crate or this file has changed since.
+$(ARCHIVE): Makefile crates.txt $(shell find crates -name '*.rt' -o -name '*.antt')
+	$(MAKE) --no-print-directory archive
+
+install: $(ARCHIVE)
+	install -d "$(DESTDIR)$(LIBDIR)/pkgconfig" "$(DESTDIR)$(INCLUDEDIR)" "$(DESTDIR)$(DOCDIR)"
+	install -m 644 $(ARCHIVE) "$(DESTDIR)$(LIBDIR)"
+	install -m 644 include/fetulombo.h "$(DESTDIR)$(INCLUDEDIR)"
+	install -m 644 $(LICENCES) "$(DESTDIR)$(DOCDIR)"
+	sed -e 's|@PREFIX@|$(PREFIX)|' -e 's|@LIBDIR@|$(LIBDIR)|' -e 's|@INCLUDEDIR@|$(INCLUDEDIR)|' \
+	  -e 's|@VERSION@|$(VERSION)|' fetulombo.pc.in >"$(DESTDIR)$(LIBDIR)/pkgconfig/fetulombo.pc"
+	chmod 644 "$(DESTDIR)$(LIBDIR)/pkgconfig/fetulombo.pc"
+
+uninstall:
+	rm -f "$(DESTDIR)$(LIBDIR)/libfetulombo.a" "$(DESTDIR)$(LIBDIR)/pkgconfig/fetulombo.pc" \
+	  "$(DESTDIR)$(INCLUDEDIR)/fetulombo.h" $(patsubst %,"$(DESTDIR)$(DOCDIR)/%",$(LICENCES))
+	[ ! -d "$(DESTDIR)$(DOCDIR)" ] || rmdir --ignore-fail-on-non-empty "$(DESTDIR)$(DOCDIR)"
+
 ifneq ($(TOOLS),)
 calls: archive
 	mkdir -p target/c
 	$(CC) -std=c11 -Wall -Wextra -Werror -O2 -Iinclude tests/c/calls.c $(ARCHIVE) -o target/c/calls
-	$(EMULATOR) target/c/calls
+	$(EMULATOR) target/c/calls fixtures/lot/liblot.so
+	CC="$(CC)" NM="$(NM)" tests/header $(ARCHIVE)
+	CC="$(CC)" EMULATOR="$(EMULATOR)" tests/install
 	$(CARGO) test --offline --quiet --manifest-path rust/Cargo.toml
 	fixtures/lot/make --check
 
@@ -98,6 +142,7 @@ ifneq ($(wildcard $(ORACLE)/Cargo.toml),)
 # Under an emulator, an eighth of the random inputs.
 comparison: $(COMPARE)
 	$(EMULATOR) $(COMPARE) $(if $(EMULATOR),--short)
+	@$(if $(EMULATOR),$(call not_run,seven eighths of the random inputs of the comparison (under an emulator)))
 
 record: $(COMPARE)
 	$(EMULATOR) $(COMPARE) --record crates
@@ -110,8 +155,8 @@ speed: archive
 	compare/target/speed/compare --speed
 else
 speed:
-	@echo "A time under an emulator says nothing, and the archive is for x86-64: NO TIMES ARE TAKEN."
-	@echo "docs/SPEED.md has the last ones."
+	@$(call not_run,$@ (a time under an emulator says nothing, and the archive is for x86-64))
+	@echo "docs/SPEED.md has the last times."
 endif
 
 .PHONY: $(COMPARE)
@@ -120,12 +165,12 @@ $(COMPARE): archive
 	$(CARGO) build --offline --quiet --release --manifest-path compare/Cargo.toml
 else
 comparison record speed:
-	@echo "The original is not at hand ($(ORACLE)): NO COMPARISON WITH IT IS RUN."
-	@echo "docs/COMPARISON.md has the last one, docs/SPEED.md the last times; the replay programs of the gate run its recorded answers."
+	@$(call not_run,$@ (the original is not at hand: $(ORACLE)))
+	@echo "docs/COMPARISON.md has the last comparison, docs/SPEED.md the last times; the replay programs of the gate run the original's recorded answers."
 endif
 else
 calls comparison record speed:
-	@echo "The archive is for x86-64, and no cross compiler and emulator for it are at hand: $@ IS NOT RUN."
+	@$(call not_run,$@ (the archive is for x86-64, and no cross compiler and emulator for it are at hand))
 	@echo "The replay programs of the gate run the original's recorded answers."
 endif
 

@@ -1,10 +1,19 @@
-/* Calls every function of the archive once or more, and compares with values worked out from the
- * public documents. Exits with 1 and says where, if one differs. */
+/* Calls every function of the archive and of the header once or more, and compares with values worked out
+ * from the public documents. The argument is the library of fixtures/lot (fixtures/lot/liblot.so), which is
+ * read as a caller would read it. Exits with 1 and says where, if something differs. */
 #include "fetulombo.h"
 
 #include <stdio.h>
 #include <stdlib.h>
 #include <string.h>
+
+/* Classes and orders, in short. */
+enum { E32 = FETULOMBO_ELF32, E64 = FETULOMBO_ELF64, LE = FETULOMBO_LITTLE, BE = FETULOMBO_BIG };
+
+/* The line, as a text. */
+#define TEXT(x) #x
+#define TEXT_OF(x) TEXT(x)
+#define LINE TEXT_OF(__LINE__)
 
 static int failures;
 
@@ -24,6 +33,9 @@ _Static_assert(sizeof(fetulombo_note) == 56, "note");
 _Static_assert(sizeof(fetulombo_property) == 40, "property");
 _Static_assert(sizeof(fetulombo_version) == 32, "version");
 _Static_assert(sizeof(fetulombo_versym) == 24, "versym");
+_Static_assert(sizeof(fetulombo_lookup) == 24, "lookup");
+_Static_assert(sizeof(fetulombo_check) == 24, "check");
+_Static_assert(sizeof(fetulombo_length) == 24, "length");
 _Static_assert(sizeof(fetulombo_segment) == 64, "segment");
 _Static_assert(sizeof(fetulombo_segment_meaning) == 32, "segment meaning");
 _Static_assert(sizeof(fetulombo_part) == 32, "part");
@@ -38,7 +50,7 @@ static void words(void) {
     same("u32 big", fetulombo_u32_at(FETULOMBO_BIG, bytes, sizeof bytes, 1).value, 0x02030405);
     same("u32 past the end", fetulombo_u32_at(FETULOMBO_BIG, bytes, sizeof bytes, SIZE_MAX).value, 0);
     same("u64 little", fetulombo_u64_at(FETULOMBO_LITTLE, bytes, sizeof bytes, 0).value, 0x0807060504030201);
-    same("u64 big", fetulombo_u64_at(255, bytes, sizeof bytes, 0).value, 0x0102030405060708);
+    same("u64 big", fetulombo_u64_at(FETULOMBO_BIG, bytes, sizeof bytes, 0).value, 0x0102030405060708);
     same("u64 of three bytes, big", fetulombo_u64_at(FETULOMBO_BIG, bytes, sizeof bytes, 6).value, 0x0708090000000000);
 }
 
@@ -83,15 +95,15 @@ static void symbols(void) {
     same("symbol shndx", symbol.shndx, 7);
     same("symbol value", symbol.value, 0x0102030405060708);
     same("symbol size", symbol.size, 0x80000000000000ff);
-    same("symbol 0", fetulombo_symbol_at(1, 0, table, sizeof table, 0).refusal, FETULOMBO_NO_SYMBOL);
-    same("symbol 2", fetulombo_symbol_at(1, 0, table, sizeof table, 2).refusal, FETULOMBO_NO_SYMBOL);
-    same("last symbol", fetulombo_symbol_at(1, 0, table, sizeof table, UINT32_MAX).refusal, FETULOMBO_NO_SYMBOL);
+    same("symbol 0", fetulombo_symbol_at(E64, LE, table, sizeof table, 0).refusal, FETULOMBO_NO_SYMBOL);
+    same("symbol 2", fetulombo_symbol_at(E64, LE, table, sizeof table, 2).refusal, FETULOMBO_NO_SYMBOL);
+    same("last symbol", fetulombo_symbol_at(E64, LE, table, sizeof table, UINT32_MAX).refusal, FETULOMBO_NO_SYMBOL);
     const uint8_t names[] = "\0main";
-    fetulombo_place name = fetulombo_symbol_name(1, 0, table, sizeof table, names, sizeof names, 1);
+    fetulombo_place name = fetulombo_symbol_name(E64, LE, table, sizeof table, names, sizeof names, 1);
     same("name refusal", name.refusal, 0);
     same("name start", name.start, 1);
     same("name length", name.length, 4);
-    same("name without zero", fetulombo_symbol_name(1, 0, table, sizeof table, names, 5, 1).refusal, FETULOMBO_NO_STRING);
+    same("name without zero", fetulombo_symbol_name(E64, LE, table, sizeof table, names, 5, 1).refusal, FETULOMBO_NO_STRING);
     fetulombo_facts facts = fetulombo_symbol_facts(0x25, 0x83, 0xfff2);
     same("bind", facts.bind, 2);
     same("kind", facts.kind, 5);
@@ -101,9 +113,23 @@ static void symbols(void) {
     same("absolute", facts.absolute, 0);
     same("local", facts.local, 0);
     same("weak", facts.weak, 1);
+    facts = fetulombo_symbol_facts(0, 0, 0xfff1);
+    same("local", facts.local, 1);
+    same("absolute", facts.absolute, 1);
+    same("undefined", fetulombo_symbol_facts(0x10, 0, 0).undefined, 1);
     same("a function", fetulombo_symbol_is_definition(names, sizeof names, 1, 0x12, 7).value, 1);
     same("undefined function", fetulombo_symbol_is_definition(names, sizeof names, 1, 0x12, 0).value, 0);
-    same("a mapping symbol", fetulombo_symbol_is_definition((const uint8_t *)"$d", 3, 0, 0, 7).value, 0);
+    same("an object", fetulombo_symbol_is_definition(names, sizeof names, 1, 0x11, 0xfeff).value, 1);
+    same("no type", fetulombo_symbol_is_definition(names, sizeof names, 1, 0, 7).value, 1);
+    same("a file", fetulombo_symbol_is_definition(names, sizeof names, 1, 4, 7).value, 0);
+    same("absolute", fetulombo_symbol_is_definition(names, sizeof names, 1, 0x12, 0xfff1).value, 0);
+    same("reserved", fetulombo_symbol_is_definition(names, sizeof names, 1, 0x12, 0xff00).value, 0);
+    same("reserved", fetulombo_symbol_is_definition(names, sizeof names, 1, 0x12, 0xfffe).value, 0);
+    same("a section elsewhere", fetulombo_symbol_is_definition(names, sizeof names, 1, 0x12, 0xffff).value, 1);
+    const uint8_t *mapping = (const uint8_t *)"$d";
+    same("a mapping symbol", fetulombo_symbol_is_definition(mapping, 3, 0, 0, 7).value, 0);
+    same("a global one of that name", fetulombo_symbol_is_definition(mapping, 3, 0, 0x10, 7).value, 1);
+    same("a function of that name", fetulombo_symbol_is_definition(mapping, 3, 0, 2, 7).value, 1);
 }
 
 static void notes(void) {
@@ -122,14 +148,47 @@ static void notes(void) {
     note = fetulombo_note_step(FETULOMBO_LITTLE, 4, section, sizeof section, 32);
     same("notes end", note.found + note.refusal, 0);
     same("notes end stays", note.next, 32);
-    same("note short", fetulombo_note_step(0, 4, section, 11, 0).refusal, FETULOMBO_NOTE_SHORT);
-    same("note short is at its end", fetulombo_note_step(0, 4, section, 11, 0).next, 11);
-    same("note name cut", fetulombo_note_step(0, 4, section, 15, 0).refusal, FETULOMBO_BAD_NOTE_NAME);
-    same("note descriptor cut", fetulombo_note_step(0, 4, section, 31, 0).refusal, FETULOMBO_BAD_NOTE_DESCRIPTOR);
-    same("note alignment", fetulombo_note_step(0, 5, section, 32, 0).refusal, FETULOMBO_BAD_NOTE_ALIGNMENT);
+    same("note short", fetulombo_note_step(LE, 4, section, 11, 0).refusal, FETULOMBO_NOTE_SHORT);
+    same("note short is at its end", fetulombo_note_step(LE, 4, section, 11, 0).next, 11);
+    same("note name cut", fetulombo_note_step(LE, 4, section, 15, 0).refusal, FETULOMBO_BAD_NOTE_NAME);
+    same("note descriptor cut", fetulombo_note_step(LE, 4, section, 31, 0).refusal, FETULOMBO_BAD_NOTE_DESCRIPTOR);
+    same("note alignment", fetulombo_note_step(LE, 5, section, 32, 0).refusal, FETULOMBO_BAD_NOTE_ALIGNMENT);
+    same("note alignment, next", fetulombo_note_step(LE, 5, section, 32, 0).next, 32);
+    same("note alignment, again", fetulombo_note_step(LE, 5, section, 32, 32).refusal, FETULOMBO_BAD_NOTE_ALIGNMENT);
+    same("note alignment 3", fetulombo_note_step(LE, 3, section, 32, 0).next, 32);
+    same("note alignment 8", fetulombo_note_step(LE, 8, section, 32, 0).descriptor, 16);
+    /* The padding after the last descriptor is missing: next lies past the bytes, and ends there. */
+    const uint8_t unpadded[17] = {4, 0, 0, 0, 1, 0, 0, 0, 9, 0, 0, 0, 'l', 'o', 't', 0, 7};
+    note = fetulombo_note_step(LE, 4, unpadded, sizeof unpadded, 0);
+    same("unpadded found", note.found, 1);
+    same("unpadded next", note.next, 20);
+    note = fetulombo_note_step(LE, 4, unpadded, sizeof unpadded, note.next);
+    same("unpadded end", note.found + note.refusal, 0);
+    same("unpadded end stays", note.next, 20);
+    /* The header's loop ends, whatever is refused. */
+    const struct {
+        const uint8_t *bytes;
+        size_t length;
+        uint64_t align;
+        unsigned notes, refusal;
+    } loops[] = {{section, 32, 4, 1, 0},
+                 {section, 32, 5, 0, FETULOMBO_BAD_NOTE_ALIGNMENT},
+                 {section, 31, 4, 0, FETULOMBO_BAD_NOTE_DESCRIPTOR},
+                 {unpadded, 17, 4, 1, 0},
+                 {section, 0, 4, 0, 0}};
+    for (size_t i = 0; i < sizeof loops / sizeof *loops; i++) {
+        unsigned notes = 0;
+        for (size_t at = 0;
+             (note = fetulombo_note_step(LE, loops[i].align, loops[i].bytes, loops[i].length, at)).found;
+             at = note.next) {
+            notes++;
+        }
+        same("notes of a loop", notes, loops[i].notes);
+        same("refusal of a loop", note.refusal, loops[i].refusal);
+    }
     same("trimmed", fetulombo_trimmed(section + 12, 4).value, 3);
-    same("this kind", fetulombo_gnu_properties(1, 0, 5, section + 12, 4, section + 16, 16).value, 1);
-    same("another kind", fetulombo_gnu_properties(1, 0, 4, section + 12, 4, section + 16, 16).value, 0);
+    same("this kind", fetulombo_gnu_properties(E64, LE, 5, section + 12, 4, section + 16, 16).value, 1);
+    same("another kind", fetulombo_gnu_properties(E64, LE, 4, section + 12, 4, section + 16, 16).value, 0);
     fetulombo_property property = fetulombo_property_step(FETULOMBO_ELF64, FETULOMBO_LITTLE, section + 16, 16, 0);
     same("property refusal", property.refusal, 0);
     same("property found", property.found, 1);
@@ -137,10 +196,14 @@ static void notes(void) {
     same("property start", property.start, 8);
     same("property length", property.length, 4);
     same("property next", property.next, 16);
-    same("property padding", fetulombo_property_step(1, 0, section + 16, 12, 0).refusal, FETULOMBO_BAD_PROPERTY);
-    same("property of 32 bits", fetulombo_property_step(0, 0, section + 16, 12, 0).next, 12);
-    same("property number", fetulombo_property_number(0, section + 24, 4).value, 3);
-    same("short number", fetulombo_property_number(0, section + 24, 3).refusal, FETULOMBO_SHORT_PROPERTY_NUMBER);
+    same("property padding", fetulombo_property_step(E64, LE, section + 16, 12, 0).refusal, FETULOMBO_BAD_PROPERTY);
+    same("property padding, next", fetulombo_property_step(E64, LE, section + 16, 12, 0).next, 12);
+    same("properties end", fetulombo_property_step(E64, LE, section + 16, 16, 16).found, 0);
+    same("properties end stays", fetulombo_property_step(E64, LE, section + 16, 16, 99).next, 99);
+    same("property of 32 bits", fetulombo_property_step(E32, LE, section + 16, 12, 0).next, 12);
+    same("property number", fetulombo_property_number(LE, section + 24, 4).value, 3);
+    same("property number, big", fetulombo_property_number(BE, section + 24, 4).value, 0x03000000);
+    same("short number", fetulombo_property_number(LE, section + 24, 3).refusal, FETULOMBO_SHORT_PROPERTY_NUMBER);
 }
 
 static void versions(void) {
@@ -174,75 +237,313 @@ static void versions(void) {
     same("versym index", versym.index, 2);
     same("versym hidden", versym.hidden, 1);
     same("no versym", fetulombo_version_of(FETULOMBO_LITTLE, versyms, sizeof versyms, 3).index, 1);
+    same("no versym, hidden", fetulombo_version_of(FETULOMBO_LITTLE, versyms, sizeof versyms, 3).hidden, 0);
     const uint8_t *a = (const uint8_t *)"a";
-    same("hidden, no need", fetulombo_version_matches(0, versyms, 7, store, 25, names, 7, 1, 0, 0, a, 0).value, 0);
-    same("hidden, equal need", fetulombo_version_matches(0, versyms, 7, store, 25, names, 7, 1, 1, 0x61, a, 1).value, 1);
-    same("another hash", fetulombo_version_matches(0, versyms, 7, store, 25, names, 7, 1, 1, 0x62, a, 1).value, 0);
-    same("not hidden", fetulombo_version_matches(0, versyms, 7, store, 25, names, 7, 2, 0, 0, a, 0).value, 1);
-    same("no versym, no need", fetulombo_version_matches(0, versyms, 7, store, 25, names, 7, 3, 0, 0, a, 0).value, 1);
-    same("no versym, a need", fetulombo_version_matches(0, versyms, 7, store, 25, names, 7, 3, 1, 0x61, a, 1).value, 0);
+    same("hidden, no need", fetulombo_version_matches(LE, versyms, 7, store, 25, names, 7, 1, 0, 0, a, 0).value, 0);
+    same("hidden, equal need", fetulombo_version_matches(LE, versyms, 7, store, 25, names, 7, 1, 1, 0x61, a, 1).value, 1);
+    same("another hash", fetulombo_version_matches(LE, versyms, 7, store, 25, names, 7, 1, 1, 0x62, a, 1).value, 0);
+    same("not hidden", fetulombo_version_matches(LE, versyms, 7, store, 25, names, 7, 2, 0, 0, a, 0).value, 1);
+    same("no versym, no need", fetulombo_version_matches(LE, versyms, 7, store, 25, names, 7, 3, 0, 0, a, 0).value, 1);
+    same("no versym, a need", fetulombo_version_matches(LE, versyms, 7, store, 25, names, 7, 3, 1, 0x61, a, 1).value, 0);
+    /* Index 0 and 1 match without a need, hidden or not, and never with one; an index without an entry never. */
+    const uint8_t odd[] = {0, 0x80, 1, 0x80, 9, 0, 0, 0};
+    for (uint32_t i = 0; i < 4; i++) {
+        same("special, no need", fetulombo_version_matches(LE, odd, 8, store, 25, names, 7, i, 0, 0, a, 0).value, i != 2);
+        same("special, a need", fetulombo_version_matches(LE, odd, 8, store, 25, names, 7, i, 1, 0x61, a, 1).value, 0);
+    }
+    same("hash of no need", fetulombo_version_matches(LE, versyms, 7, store, 25, names, 7, 2, 0, 99, a, 1).value, 1);
+    same("needed 2", fetulombo_version_matches(LE, versyms, 7, store, 25, names, 7, 1, 2, 0x61, a, 1).value, 1);
     /* Highest index 2: 18 numbers pass, 17 give 22; no records need 6. A refusal leaves 0. */
-    same("18 numbers", fetulombo_versions_parse(0, verdef, 28, verneed, 0, names, 7, store, 18).refusal, 0);
+    same("18 numbers", fetulombo_versions_parse(LE, verdef, 28, verneed, 0, names, 7, store, 18).refusal, 0);
     memset(store, 0xff, sizeof store);
-    same("17 numbers", fetulombo_versions_parse(0, verdef, 28, verneed, 0, names, 7, store, 17).refusal,
+    same("17 numbers", fetulombo_versions_parse(LE, verdef, 28, verneed, 0, names, 7, store, 17).refusal,
          FETULOMBO_STORE_TOO_SMALL);
     for (int i = 0; i < 25; i++) {
         same("store after a refusal", store[i], i < 17 ? 0 : 0xffffffff);
     }
-    same("6 numbers", fetulombo_versions_parse(0, verdef, 0, verneed, 0, names, 0, store, 6).refusal, 0);
-    same("5 numbers", fetulombo_versions_parse(0, verdef, 0, verneed, 0, names, 0, store, 5).refusal,
+    same("no record", fetulombo_versions_parse(LE, verdef, 0, verneed, 0, names, 0, store, 25).value, 0);
+    same("6 numbers", fetulombo_versions_parse(LE, verdef, 0, verneed, 0, names, 0, store, 6).refusal, 0);
+    same("5 numbers", fetulombo_versions_parse(LE, verdef, 0, verneed, 0, names, 0, store, 5).refusal,
          FETULOMBO_STORE_TOO_SMALL);
 }
 
-/* Document 01's table: symbols null and `a`, base 1, one bucket holding 1, shift 5, value 177671. */
+/* A number of so many bytes, little. */
+static void put(uint8_t *at, uint32_t value, size_t width) {
+    for (size_t i = 0; i < width; i++) {
+        at[i] = (uint8_t)(value >> 8 * i);
+    }
+}
+
+static void put_verdef(uint8_t *at, uint16_t flags, uint16_t index, uint32_t aux, uint32_t next) {
+    put(at + 2, flags, 2);
+    put(at + 4, index, 2);
+    put(at + 6, 1, 2);
+    put(at + 12, aux, 4);
+    put(at + 16, next, 4);
+}
+
+static void put_verneed(uint8_t *at, uint16_t count, uint32_t file, uint32_t aux, uint32_t next) {
+    put(at + 2, count, 2);
+    put(at + 4, file, 4);
+    put(at + 8, aux, 4);
+    put(at + 12, next, 4);
+}
+
+static void put_vernaux(uint8_t *at, uint16_t index, uint32_t name, uint32_t next) {
+    put(at + 6, index, 2);
+    put(at + 8, name, 4);
+    put(at + 12, next, 4);
+}
+
+/* Parses, over strings in which a name can be read at 1 and none at 9. After a refusal the store is all 0. */
+static void parsed(const char *what, const uint8_t *verdef, size_t verdef_length, const uint8_t *verneed,
+                   size_t verneed_length, uint32_t *store, size_t store_length, uint64_t wanted) {
+    const uint8_t names[] = {0, 'a', 0};
+    memset(store, 0xff, store_length * sizeof *store);
+    const fetulombo_number got = fetulombo_versions_parse(LE, verdef, verdef_length, verneed, verneed_length, names,
+                                                          sizeof names, store, store_length);
+    same(what, got.refusal, wanted);
+    for (size_t i = 0; i < store_length && wanted != 0; i++) {
+        same(what, store[i], 0);
+    }
+}
+
+/* Version parsing refuses record by record, in the order that the header names. */
+static void refusals_in_order(void) {
+    uint8_t d[48], n[48];
+#define PARSED(d_length, n_length, numbers, wanted) \
+    parsed("parsing, line " LINE, d, d_length, n, n_length, store, numbers, wanted)
+    uint32_t store[24];
+    /* A first Verdef whose aux and next are bad, and a second one of 19 bytes. */
+    memset(d, 0, sizeof d);
+    memset(n, 0, sizeof n);
+    put_verdef(d, 0, 2, 40, 40);
+    PARSED(39, 0, 24, FETULOMBO_BAD_VERDEF_AUX);
+    put_verdef(d, 0, 2, 39, 40);
+    PARSED(39, 0, 24, FETULOMBO_BAD_VERDEF_NEXT);
+    PARSED(39, 15, 24, FETULOMBO_BAD_VERDEF_NEXT);
+    put_verdef(d, 1, 2, 40, 20);
+    PARSED(39, 0, 24, FETULOMBO_BAD_VERDEF_AUX);
+    put_verdef(d, 1, 2, 39, 20);
+    PARSED(39, 0, 24, FETULOMBO_VERDEF_SHORT);
+    PARSED(19, 0, 0, FETULOMBO_VERDEF_SHORT);
+    PARSED(39, 15, 24, FETULOMBO_VERDEF_SHORT);
+    put_verdef(d, 1, 2, 39, 39);
+    PARSED(39, 15, 24, FETULOMBO_VERNEED_SHORT);
+    /* A Verneed, its Vernaux, and a second Verneed of 8 bytes. */
+    put_verneed(n, 1, 1, 41, 41);
+    PARSED(0, 40, 24, FETULOMBO_BAD_VERNEED_AUX);
+    put_verneed(n, 1, 1, 16, 41);
+    put_vernaux(n + 16, 2, 1, 25);
+    PARSED(0, 40, 24, FETULOMBO_BAD_VERNEED_NEXT);
+    PARSED(0, 31, 24, FETULOMBO_BAD_VERNEED_NEXT);
+    put_verneed(n, 1, 1, 16, 0);
+    PARSED(0, 31, 24, FETULOMBO_VERNAUX_SHORT);
+    put_verneed(n, 1, 1, 16, 32);
+    PARSED(0, 40, 0, FETULOMBO_BAD_VERNAUX_NEXT);
+    put_vernaux(n + 16, 2, 1, 24);
+    PARSED(0, 40, 24, FETULOMBO_VERNEED_SHORT);
+    put_verneed(n, 2, 1, 16, 32);
+    PARSED(0, 40, 24, FETULOMBO_VERNAUX_SHORT);
+    /* Two definitions of the indices 2 and 3; the second one's Verdaux is short. */
+    put_verdef(d, 0, 2, 40, 20);
+    put_verdef(d + 20, 0, 3, 28, 0);
+    put(d + 40, 9, 4);
+    PARSED(48, 0, 23, FETULOMBO_STORE_TOO_SMALL);
+    PARSED(48, 0, 24, FETULOMBO_BAD_VERDAUX_NAME);
+    put(d + 44, 9, 4);
+    PARSED(48, 0, 24, FETULOMBO_BAD_VERDAUX_NEXT);
+    put(d + 40, 1, 4);
+    put(d + 44, 8, 4);
+    PARSED(48, 0, 24, FETULOMBO_VERDAUX_SHORT);
+    /* A Verneed with two Vernauxs of the indices 2 and 3. */
+    put_verneed(n, 2, 9, 16, 0);
+    put_vernaux(n + 16, 2, 9, 16);
+    put_vernaux(n + 32, 3, 9, 0);
+    PARSED(48, 48, 24, FETULOMBO_VERDAUX_SHORT);
+    PARSED(0, 48, 23, FETULOMBO_STORE_TOO_SMALL);
+    PARSED(0, 48, 24, FETULOMBO_BAD_VERNAUX_NAME);
+    put_vernaux(n + 16, 2, 1, 16);
+    PARSED(0, 48, 24, FETULOMBO_BAD_VERNEED_FILE);
+    put_verneed(n, 2, 1, 16, 0);
+    PARSED(0, 48, 24, FETULOMBO_BAD_VERNAUX_NAME);
+    /* What is not stored is not read: the base definition, one without a Verdaux, and the indices 0 and 1. */
+    put_vernaux(n + 32, 1, 9, 0);
+    put_verdef(d + 20, 1, 3, 28, 0);
+    PARSED(48, 48, 18, 0);
+    put_verdef(d + 20, 0, 1, 28, 0);
+    PARSED(48, 48, 18, 0);
+    put_verdef(d + 20, 0, 2, 28, 0);
+    put(d + 26, 0, 2);
+    PARSED(48, 48, 18, 0);
+    same("the need, later, overwrites", store[12], 2);
+    put(d + 26, 1, 2);
+    PARSED(48, 48, 18, FETULOMBO_VERDAUX_SHORT);
+#undef PARSED
+}
+
+static fetulombo_bytes bytes_of(const void *data, size_t length) {
+    return (fetulombo_bytes){data, length};
+}
+
+/* Document 01's library: symbols null and `a`, base 1, one bucket holding 1, shift 5, value 177671; and a SysV
+ * table of the same symbols with two buckets. What it lacks is null. */
 static uint32_t gnu_words[] = {1, 1, 1, 5, 65600, 1, 177671};
 
-static fetulombo_lookup gnu_find(const char *name, uint32_t hash, uint8_t needed) {
+static fetulombo_library small_library(void) {
     static const uint8_t symbols[32] = {[16] = 1};
     static const uint8_t strings[] = {0, 'a', 0};
-    static const uint32_t store[1];
-    return fetulombo_gnu_find(FETULOMBO_ELF32, FETULOMBO_LITTLE, (const uint8_t *)gnu_words, sizeof gnu_words, symbols,
-                              sizeof symbols, strings, sizeof strings, strings, 0, store, 0, strings, 0,
-                              (const uint8_t *)name, strlen(name), hash, needed, 0x61, (const uint8_t *)"a", 1);
+    static const uint8_t sysv[] = {2, 0, 0, 0, 2, 0, 0, 0, 0, 0, 0, 0, 1, 0, 0, 0, 9, 0, 0, 0, 0, 0, 0, 0};
+    fetulombo_library library = {0};
+    library.elf_class = FETULOMBO_ELF32;
+    library.order = FETULOMBO_LITTLE;
+    library.gnu_table = bytes_of(gnu_words, sizeof gnu_words);
+    library.sysv_table = bytes_of(sysv, sizeof sysv);
+    library.symbols = bytes_of(symbols, sizeof symbols);
+    library.strings = bytes_of(strings, sizeof strings);
+    return library;
+}
+
+static void same_lookup(const char *what, fetulombo_lookup got, uint64_t found, uint64_t symbol, uint64_t probes) {
+    same(what, got.refusal, 0);
+    same(what, got.found, found);
+    same(what, got.symbol, symbol);
+    same(what, got.probes, probes);
 }
 
 static void lookups(void) {
-    fetulombo_lookup found = gnu_find("a", 177670, 0);
-    same("a refusal", found.refusal, 0);
-    same("a found", found.found, 1);
-    same("a symbol", found.symbol, 1);
-    same("a probes", found.probes, 1);
-    same("a with a need", gnu_find("a", 177670, 1).found, 0);
-    same("a with a need, probes", gnu_find("a", 177670, 1).probes, 1);
-    same("b", gnu_find("b", 177671, 0).found, 0);
-    same("b probes", gnu_find("b", 177671, 0).probes, 0);
+    const fetulombo_library library = small_library();
+    const fetulombo_wanted a = fetulombo_want(fetulombo_text("a"));
+    const fetulombo_wanted b = fetulombo_want(fetulombo_text("b"));
+    fetulombo_wanted a_1 = a;
+    fetulombo_want_version(&a_1, fetulombo_text("1"));
+    same_lookup("a", fetulombo_library_gnu_find(&library, &a), 1, 1, 1);
+    same_lookup("a with a need", fetulombo_library_gnu_find(&library, &a_1), 0, 0, 1);
+    same_lookup("b", fetulombo_library_gnu_find(&library, &b), 0, 0, 0);
+    same_lookup("SysV, a", fetulombo_library_sysv_find(&library, &a), 1, 1, 1);
+    same_lookup("SysV, a with a need", fetulombo_library_sysv_find(&library, &a_1), 0, 0, 1);
+    same_lookup("SysV, b", fetulombo_library_sysv_find(&library, &b), 0, 0, 0);
+    const fetulombo_wanted c = fetulombo_want(fetulombo_text("c"));
+    same_lookup("SysV, c", fetulombo_library_sysv_find(&library, &c), 0, 0, 1);
+    fetulombo_hashes hashes = fetulombo_hashes_of(&a_1);
+    same("GNU hash", hashes.gnu, 177670);
+    same("SysV hash", hashes.sysv, 97);
+    same("version's hash", hashes.version, 0x31);
+    same("no version's hash", fetulombo_hashes_of(&a).version, 0);
+    same_lookup("a by its hash", fetulombo_library_gnu_find_hashed(&library, &a, &hashes), 1, 1, 1);
+    same_lookup("SysV, a by its hash", fetulombo_library_sysv_find_hashed(&library, &a, &hashes), 1, 1, 1);
+    hashes.gnu = 0;
+    same_lookup("a by another hash", fetulombo_library_gnu_find_hashed(&library, &a, &hashes), 0, 0, 0);
     gnu_words[4] = 0xffffffff;
-    same("b, bloom all ones", gnu_find("b", 177671, 0).found, 0);
-    same("b, bloom all ones, probes", gnu_find("b", 177671, 0).probes, 1);
+    same_lookup("b, bloom all ones", fetulombo_library_gnu_find(&library, &b), 0, 0, 1);
     gnu_words[3] = 32;
-    same("shift 32", gnu_find("a", 177670, 0).refusal, FETULOMBO_BAD_BLOOM_SHIFT);
+    same("shift 32", fetulombo_library_gnu_find(&library, &a).refusal, FETULOMBO_BAD_BLOOM_SHIFT);
+    gnu_words[3] = 5;
+    gnu_words[4] = 65600;
+    /* The same by the functions of the archive, and a SysV table of 64 bits, big. */
+    const uint8_t *none = (const uint8_t *)"";
+    const uint32_t store[1] = {0};
     const uint8_t *table = (const uint8_t *)gnu_words;
-    same("base", fetulombo_gnu_base(0, 0, table, sizeof gnu_words).value, 1);
-    same("GNU length known", fetulombo_gnu_length(0, 0, table, sizeof gnu_words).known, 1);
-    same("GNU length", fetulombo_gnu_length(0, 0, table, sizeof gnu_words).symbols, 2);
-    same("GNU length, no value", fetulombo_gnu_length(0, 0, table, 24).known, 0);
-    same("GNU buckets", fetulombo_gnu_length(0, 0, table, 23).refusal, FETULOMBO_BAD_GNU_BUCKETS);
-    same("GNU bloom", fetulombo_gnu_base(1, 0, table, 23).refusal, FETULOMBO_BAD_GNU_BLOOM);
-    same("GNU header", fetulombo_gnu_base(0, 0, table, 15).refusal, FETULOMBO_BAD_GNU_HEADER);
+    same_lookup("a, of the archive",
+                fetulombo_gnu_find(E32, LE, table, sizeof gnu_words, library.symbols.data, 32, library.strings.data, 3,
+                                   none, 0, store, 0, none, 0, a.name.data, 1, 177670, 0, 0, none, 0),
+                1, 1, 1);
     const uint8_t sysv[] = {0, 0, 0, 1, 0, 0, 0, 2, 0, 0, 0, 1, 0, 0, 0, 9, 0, 0, 0, 0};
     const uint8_t symbols[48] = {[27] = 1};
-    const uint8_t strings[] = {0, 'a', 0};
-    const uint32_t store[1] = {0};
-    found = fetulombo_sysv_find(1, 1, sysv, sizeof sysv, symbols, 48, strings, 3, strings, 0, store, 0, strings, 0,
-                                strings + 1, 1, 97, 0, 0, strings, 0);
-    same("SysV refusal", found.refusal, 0);
-    same("SysV found", found.found, 1);
-    same("SysV symbol", found.symbol, 1);
-    same("SysV probes", found.probes, 1);
-    same("SysV length", fetulombo_sysv_length(1, sysv, sizeof sysv).value, 2);
-    same("SysV chains", fetulombo_sysv_length(1, sysv, 19).refusal, FETULOMBO_BAD_SYSV_CHAINS);
-    same("SysV buckets", fetulombo_sysv_length(1, sysv, 11).refusal, FETULOMBO_BAD_SYSV_BUCKETS);
-    same("SysV header", fetulombo_sysv_length(1, sysv, 7).refusal, FETULOMBO_BAD_SYSV_HEADER);
+    same_lookup("SysV, a, big",
+                fetulombo_sysv_find(E64, BE, sysv, sizeof sysv, symbols, 48, library.strings.data, 3, none, 0, store, 0,
+                                    none, 0, a.name.data, 1, 97, 0, 0, none, 0),
+                1, 1, 1);
+    same("base", fetulombo_gnu_base(E32, LE, table, sizeof gnu_words).value, 1);
+    same("GNU length, no value", fetulombo_gnu_length(E32, LE, table, 24).known, 0);
+    same("GNU buckets", fetulombo_gnu_length(E32, LE, table, 23).refusal, FETULOMBO_BAD_GNU_BUCKETS);
+    same("GNU bloom", fetulombo_gnu_base(E64, LE, table, 23).refusal, FETULOMBO_BAD_GNU_BLOOM);
+    same("GNU header", fetulombo_gnu_base(E32, LE, table, 15).refusal, FETULOMBO_BAD_GNU_HEADER);
+    same("SysV length", fetulombo_sysv_length(BE, sysv, sizeof sysv).value, 2);
+    same("SysV chains", fetulombo_sysv_length(BE, sysv, 19).refusal, FETULOMBO_BAD_SYSV_CHAINS);
+    same("SysV buckets", fetulombo_sysv_length(BE, sysv, 11).refusal, FETULOMBO_BAD_SYSV_BUCKETS);
+    same("SysV header", fetulombo_sysv_length(BE, sysv, 7).refusal, FETULOMBO_BAD_SYSV_HEADER);
+    same("the library's base", fetulombo_library_gnu_base(&library).value, 1);
+    same("the library's GNU length", fetulombo_library_gnu_length(&library).symbols, 2);
+    same("the library's SysV length", fetulombo_library_sysv_length(&library).value, 2);
+}
+
+/* The small library with versions, whose strings are not the symbols': `a` in version `L`, hidden, and a need of
+ * `M` of a file `f`. */
+static void versioned(void) {
+    fetulombo_library library = small_library();
+    uint8_t verdef[28] = {0}, verneed[32] = {0};
+    const uint8_t versyms[] = {0, 0, 2, 0x80};
+    const uint8_t names[] = "\0\0L\0M\0f";
+    uint32_t store[FETULOMBO_ENTRY * 4];
+    put_verdef(verdef, 0, 2, 20, 0);
+    put(verdef + 8, 'L', 4);
+    put(verdef + 20, 2, 4);
+    put_verneed(verneed, 1, 6, 16, 0);
+    put(verneed + 16, 'M', 4);
+    put_vernaux(verneed + 16, 3, 4, 0);
+    library.versyms = bytes_of(versyms, sizeof versyms);
+    library.definitions = bytes_of(verdef, sizeof verdef);
+    library.needs = bytes_of(verneed, sizeof verneed);
+    library.version_strings = bytes_of(names, sizeof names);
+    const fetulombo_number highest = fetulombo_library_parse_versions(&library, store, FETULOMBO_ENTRY * 4);
+    same("versioned, refusal", highest.refusal, 0);
+    same("versioned, highest", highest.value, 3);
+    const char *asked[] = {NULL, "L", "M", ""};
+    for (size_t i = 0; i < 4; i++) {
+        fetulombo_wanted wanted = fetulombo_want(fetulombo_text("a"));
+        if (asked[i] != NULL) {
+            fetulombo_want_version(&wanted, fetulombo_text(asked[i]));
+        }
+        const uint64_t found = i == 1;
+        const fetulombo_hashes hashes = fetulombo_hashes_of(&wanted);
+        same_lookup("versioned", fetulombo_library_gnu_find(&library, &wanted), found, found, 1);
+        same_lookup("versioned, SysV", fetulombo_library_sysv_find(&library, &wanted), found, found, 1);
+        same_lookup("versioned, hashed", fetulombo_library_gnu_find_hashed(&library, &wanted, &hashes), found, found, 1);
+        same_lookup("versioned, SysV, hashed", fetulombo_library_sysv_find_hashed(&library, &wanted, &hashes), found,
+                    found, 1);
+        same("versioned, match", fetulombo_library_version_matches(&library, &wanted, 1).value, found);
+    }
+    const fetulombo_version need = fetulombo_library_version_entry(&library, 3);
+    same("versioned, need", need.kind, 2);
+    same("versioned, need's name", need.name, 4);
+    same("versioned, need's file", need.file, 6);
+    same("versioned, index", fetulombo_library_version_of(&library, 1).index, 2);
+    same("versioned, name", fetulombo_library_symbol_name(&library, 1).start, 1);
+    /* A store that is too small is all 0 afterwards, and then no version matches. */
+    const fetulombo_wanted any = fetulombo_want(fetulombo_text("a"));
+    const uint8_t shown[] = {0, 0, 2, 0};
+    library.versyms = bytes_of(shown, sizeof shown);
+    same_lookup("versioned, not hidden", fetulombo_library_gnu_find(&library, &any), 1, 1, 1);
+    same("versioned, 23 numbers", fetulombo_library_parse_versions(&library, store, 23).refusal,
+         FETULOMBO_STORE_TOO_SMALL);
+    same_lookup("versioned, refused store", fetulombo_library_gnu_find(&library, &any), 0, 0, 1);
+}
+
+/* Where a GNU table says the length of the symbol table, and each case in which it does not. */
+static void lengths(void) {
+    const struct {
+        const char *what;
+        uint32_t words[8]; /* buckets, symbol_base, bloom words, shift, one bloom word, then buckets and values */
+        uint64_t known, symbols;
+    } tables[] = {
+        {"length", {1, 1, 1, 5, 0, 1, 0, 1}, 1, 3},
+        {"length, symbol_base 0", {1, 0, 1, 5, 0, 1, 1, 1}, 0, 0},
+        {"length, no bucket", {0, 1, 1, 5, 0, 1, 1, 1}, 0, 0},
+        {"length, bucket below symbol_base", {1, 2, 1, 5, 0, 1, 1, 1}, 0, 0},
+        {"length, no end", {1, 1, 1, 5, 0, 1, 2, 2}, 0, 0},
+        {"length, bucket past the values", {1, 1, 1, 5, 0, 3, 1, 1}, 0, 0},
+        {"length of 32 bits", {1, 0xfffffffe, 1, 5, 0, 0xfffffffe, 1, 1}, 1, 0xffffffff},
+        {"length past 32 bits", {1, 0xffffffff, 1, 5, 0, 0xffffffff, 1, 1}, 0, 0},
+    };
+    for (size_t i = 0; i < sizeof tables / sizeof *tables; i++) {
+        fetulombo_library library = small_library();
+        library.gnu_table = bytes_of(tables[i].words, sizeof tables[i].words);
+        const fetulombo_length length = fetulombo_library_gnu_length(&library);
+        same(tables[i].what, length.refusal, 0);
+        same(tables[i].what, length.known, tables[i].known);
+        same(tables[i].what, length.symbols, tables[i].symbols);
+    }
 }
 
 static void segments(void) {
@@ -305,14 +606,14 @@ static void segments(void) {
     same("dynamic length", part.length, 15);
     same("dynamic entries", part.number, 1);
     same("not dynamic", fetulombo_segment_dynamic(FETULOMBO_ELF32, file, 24, 1, 99, 99).found, 0);
-    same("dynamic place", fetulombo_segment_dynamic(1, file, 24, 2, 9, 16).refusal, FETULOMBO_BAD_DYNAMIC_PLACE);
+    same("dynamic place", fetulombo_segment_dynamic(E64, file, 24, 2, 9, 16).refusal, FETULOMBO_BAD_DYNAMIC_PLACE);
     fetulombo_dynamic entry = fetulombo_segment_dynamic_entry(FETULOMBO_ELF32, FETULOMBO_LITTLE, file + 8, 15, 0);
     same("entry refusal", entry.refusal, 0);
     same("entry found", entry.found, 1);
     same("entry tag", entry.tag, 1);
     same("entry value", entry.value, 0x80);
-    same("entry of 64 bits", fetulombo_segment_dynamic_entry(1, 1, file + 8, 16, 0).tag, 0x0100000080000000);
-    same("no entry", fetulombo_segment_dynamic_entry(0, 0, file + 8, 15, 1).found, 0);
+    same("entry of 64 bits", fetulombo_segment_dynamic_entry(E64, BE, file + 8, 16, 0).tag, 0x0100000080000000);
+    same("no entry", fetulombo_segment_dynamic_entry(E32, LE, file + 8, 15, 1).found, 0);
     part = fetulombo_segment_interpreter(file, 24, FETULOMBO_SEGMENT_INTERPRETER, 1, 7);
     same("interpreter refusal", part.refusal, 0);
     same("interpreter found", part.found, 1);
@@ -334,122 +635,468 @@ static void segments(void) {
 }
 
 static void checks(void) {
-    static const uint8_t symbols[32] = {[16] = 1};
-    static const uint8_t strings[] = {0, 'a', 0};
     uint32_t words[] = {1, 1, 1, 5, 65600, 1, 177671};
-    const uint8_t *table = (const uint8_t *)words;
-    fetulombo_check said = fetulombo_gnu_check(0, 0, table, sizeof words, symbols, 32, strings, 3);
+    fetulombo_library library = small_library();
+    library.gnu_table = bytes_of(words, sizeof words);
+    fetulombo_check said = fetulombo_library_gnu_check(&library);
     same("checked, refusal", said.refusal, 0);
     same("checked, accepted", said.accepted, 1);
     same("checked, longest", said.longest, 1);
     same("checked, rule and place", said.rule + said.place, 0);
     words[6] = 177670;
-    said = fetulombo_gnu_check(0, 0, table, sizeof words, symbols, 32, strings, 3);
+    said = fetulombo_library_gnu_check(&library);
+    same("broken, refusal", said.refusal, 0);
     same("broken, accepted", said.accepted, 0);
     same("broken, rule", said.rule, 10);
     same("broken, place", said.place, 1);
     same("broken, longest", said.longest, 0);
-    same("strings without a zero", fetulombo_gnu_check(0, 0, table, sizeof words, symbols, 32, strings, 2).rule, 6);
-    same("checked header", fetulombo_gnu_check(0, 0, table, 15, symbols, 32, strings, 3).refusal, FETULOMBO_BAD_GNU_HEADER);
-    const uint8_t sysv[] = {1, 0, 0, 0, 2, 0, 0, 0, 1, 0, 0, 0, 9, 0, 0, 0, 0, 0, 0, 0};
-    said = fetulombo_sysv_check(0, 0, sysv, sizeof sysv, symbols, 32, strings, 3);
-    same("SysV checked", said.accepted, 1);
-    same("SysV checked, refusal", said.refusal, 0);
-    said = fetulombo_sysv_check(0, 0, sysv, sizeof sysv, symbols, 16, strings, 3);
-    same("SysV broken", said.accepted, 0);
-    same("SysV broken, rule", said.rule, 1);
-    same("SysV checked chains", fetulombo_sysv_check(0, 0, sysv, 19, symbols, 32, strings, 3).refusal,
-         FETULOMBO_BAD_SYSV_CHAINS);
+    const fetulombo_library whole = library;
+    library.strings.length = 2;
+    same("strings without a zero", fetulombo_library_gnu_check(&library).rule, 6);
+    said = fetulombo_library_sysv_check(&library);
+    same("SysV, strings without a zero", said.rule, 2);
+    same("SysV broken, place", said.place + said.longest, 0);
+    library = whole;
+    library.gnu_table.length = 15;
+    same("checked header", fetulombo_library_gnu_check(&library).refusal, FETULOMBO_BAD_GNU_HEADER);
+    same("SysV checked, refusal", fetulombo_library_sysv_check(&library).refusal, 0);
+    same("SysV checked", fetulombo_library_sysv_check(&library).accepted, 1);
+    library.symbols.length = 16;
+    same("SysV broken", fetulombo_library_sysv_check(&library).accepted, 0);
+    same("SysV broken, rule", fetulombo_library_sysv_check(&library).rule, 1);
+    library = whole;
+    library.sysv_table.length = 23;
+    same("SysV checked chains", fetulombo_library_sysv_check(&library).refusal, FETULOMBO_BAD_SYSV_CHAINS);
+    /* By the functions of the archive. */
+    words[6] = 177671;
+    const uint8_t *table = (const uint8_t *)words;
+    said = fetulombo_gnu_check(E32, LE, table, sizeof words, whole.symbols.data, 32, whole.strings.data, 3);
+    same("checked, of the archive", said.accepted, 1);
+    said = fetulombo_sysv_check(E32, LE, whole.sysv_table.data, 24, whole.symbols.data, 32, whole.strings.data, 3);
+    same("SysV checked, of the archive", said.accepted, 1);
 }
 
-static void limits(void) {
-    const size_t limit = FETULOMBO_LIMIT;
-    uint8_t *part = calloc(limit + 1, 1);
-    if (part == NULL) {
+/* A library without parts: every pointer is null. */
+static void nulls(void) {
+    fetulombo_library library = {0};
+    library.elf_class = FETULOMBO_ELF64;
+    library.order = FETULOMBO_BIG;
+    fetulombo_wanted wanted = {0};
+    for (uint8_t needed = 0; needed < 2; needed++) {
+        wanted.needed = needed;
+        same("null, GNU lookup", fetulombo_library_gnu_find(&library, &wanted).refusal, FETULOMBO_BAD_GNU_HEADER);
+        same("null, SysV lookup", fetulombo_library_sysv_find(&library, &wanted).refusal, FETULOMBO_BAD_SYSV_HEADER);
+        same("null, match", fetulombo_library_version_matches(&library, &wanted, 1).value, !needed);
+    }
+    same("null, GNU hash", fetulombo_hashes_of(&wanted).gnu, 5381);
+    same("null, SysV hash", fetulombo_hashes_of(&wanted).sysv, 0);
+    same("null, GNU check", fetulombo_library_gnu_check(&library).refusal, FETULOMBO_BAD_GNU_HEADER);
+    same("null, SysV check", fetulombo_library_sysv_check(&library).refusal, FETULOMBO_BAD_SYSV_HEADER);
+    same("null, base", fetulombo_library_gnu_base(&library).refusal, FETULOMBO_BAD_GNU_HEADER);
+    same("null, GNU length", fetulombo_library_gnu_length(&library).refusal, FETULOMBO_BAD_GNU_HEADER);
+    same("null, SysV length", fetulombo_library_sysv_length(&library).refusal, FETULOMBO_BAD_SYSV_HEADER);
+    same("null, count", fetulombo_library_symbol_count(&library).value, 0);
+    same("null, symbol", fetulombo_library_symbol_at(&library, 1).refusal, FETULOMBO_NO_SYMBOL);
+    same("null, name", fetulombo_library_symbol_name(&library, 1).refusal, FETULOMBO_NO_SYMBOL);
+    same("null, versym", fetulombo_library_version_of(&library, 7).index, 1);
+    same("null, entry", fetulombo_library_version_entry(&library, 2).refusal, FETULOMBO_BAD_VERSION_INDEX);
+    same("null, parse", fetulombo_library_parse_versions(&library, NULL, 0).refusal, FETULOMBO_STORE_TOO_SMALL);
+    uint32_t store[6] = {1, 1, 1, 1, 1, 1};
+    same("null, parse with a store", fetulombo_library_parse_versions(&library, store, 6).refusal, 0);
+    same("null, the store", store[0] | store[5], 0);
+    same("null, the library's store", library.store == store && library.store_length == 6, 1);
+    same("null, no text", fetulombo_text("").length, 0);
+    const fetulombo_bytes lent = fetulombo_text("lot");
+    same("bytes", fetulombo_bytes_of(lent, (fetulombo_place){0, 1, 2}).data == lent.data + 1, 1);
+    same("bytes, length", fetulombo_bytes_of(lent, (fetulombo_place){0, 1, 2}).length, 2);
+    same("bytes, outside", fetulombo_bytes_of(lent, (fetulombo_place){0, 2, 2}).length, 0);
+    same("bytes, a sum that wraps", fetulombo_bytes_of(lent, (fetulombo_place){0, 2, UINT64_MAX}).length, 0);
+    same("bytes, far outside", fetulombo_bytes_of(lent, (fetulombo_place){0, UINT64_MAX, 2}).length, 0);
+    same("bytes, refused", fetulombo_bytes_of(lent, (fetulombo_place){36, 0, 3}).length, 0);
+}
+
+/* Every function that takes a class or an order: what it hands back, its name, whether it takes a class and an
+ * order, the bytes of the answer without next and without padding, and the call, with p and n for each part. */
+#define EVERY(CALL)                                                                                                   \
+    CALL(number, u16_at, 0, 1, 24, (o, p, n, 0))                                                                      \
+    CALL(number, u32_at, 0, 1, 24, (o, p, n, 0))                                                                      \
+    CALL(number, u64_at, 0, 1, 24, (o, p, n, 0))                                                                      \
+    CALL(number, symbol_count, 1, 0, 24, (c, p, n))                                                                   \
+    CALL(symbol, symbol_at, 1, 1, 28, (c, o, p, n, 0))                                                                \
+    CALL(place, symbol_name, 1, 1, 24, (c, o, p, n, p, n, 0))                                                         \
+    CALL(note, note_step, 0, 1, 48, (o, 5, p, n, 0))                                                                  \
+    CALL(number, gnu_properties, 1, 1, 24, (c, o, 5, p, n, p, n))                                                     \
+    CALL(property, property_step, 1, 1, 32, (c, o, p, n, 0))                                                          \
+    CALL(number, property_number, 0, 1, 24, (o, p, n))                                                                \
+    CALL(number, versions_parse, 0, 1, 24, (o, p, n, p, n, p, n, store, 0))                                           \
+    CALL(versym, version_of, 0, 1, 24, (o, p, n, 0))                                                                  \
+    CALL(number, version_matches, 0, 1, 24, (o, p, n, store, 6, p, n, 0, 0, 0, p, n))                                 \
+    CALL(lookup, gnu_find, 1, 1, 24, (c, o, p, n, p, n, p, n, p, n, store, 6, p, n, p, n, 0, 0, 0, p, n))             \
+    CALL(lookup, sysv_find, 1, 1, 24, (c, o, p, n, p, n, p, n, p, n, store, 6, p, n, p, n, 0, 0, 0, p, n))            \
+    CALL(number, gnu_base, 1, 1, 24, (c, o, p, n))                                                                    \
+    CALL(length, gnu_length, 1, 1, 24, (c, o, p, n))                                                                  \
+    CALL(number, sysv_length, 0, 1, 24, (o, p, n))                                                                    \
+    CALL(check, gnu_check, 1, 1, 24, (c, o, p, n, p, n, p, n))                                                        \
+    CALL(check, sysv_check, 1, 1, 24, (c, o, p, n, p, n, p, n))                                                       \
+    CALL(number, segment_count, 1, 0, 24, (c, p, n))                                                                  \
+    CALL(segment, segment_at, 1, 1, 64, (c, o, p, n, 0))                                                              \
+    CALL(part, segment_dynamic, 1, 0, 32, (c, p, n, 2, 99, 99))                                                       \
+    CALL(dynamic, segment_dynamic_entry, 1, 1, 24, (c, o, p, n, 0))
+
+static uint32_t store[6];
+
+#define CALL(type, name, takes_class, takes_order, size, arguments)                                                   \
+    static void call_##name(uint8_t c, uint8_t o, const uint8_t *p, size_t n, uint8_t *answer) {                      \
+        (void)c, (void)o;                                                                                             \
+        const fetulombo_##type got = fetulombo_##name arguments;                                                      \
+        memcpy(answer, &got, sizeof got);                                                                             \
+    }
+EVERY(CALL)
+#undef CALL
+
+static const struct {
+    const char *name;
+    int takes_class, takes_order;
+    size_t size;
+    void (*call)(uint8_t c, uint8_t o, const uint8_t *p, size_t n, uint8_t *answer);
+} every[] = {
+#define CALL(type, name, takes_class, takes_order, size, arguments) {#name, takes_class, takes_order, size, call_##name},
+    EVERY(CALL)
+#undef CALL
+};
+
+/* The refusal of a call. A refused answer has nothing else, but for next. */
+static uint64_t refusal_of(size_t which, uint8_t c, uint8_t o, const uint8_t *p, size_t n) {
+    uint8_t answer[64];
+    every[which].call(c, o, p, n, answer);
+    const uint64_t refusal = fetulombo_u32_at(FETULOMBO_LITTLE, answer, 4, 0).value;
+    for (size_t i = 4; i < every[which].size && refusal != 0; i++) {
+        same(every[which].name, answer[i], 0);
+    }
+    return refusal;
+}
+
+/* A class or an order that is none is refused by each of them, after a part that is too long and before all else. */
+static void kinds(void) {
+    const size_t lengths[] = {0, 7, 15, 64};
+    uint8_t *long_part = calloc(FETULOMBO_LIMIT + 1, 1);
+    const uint8_t *p = long_part;
+    if (long_part == NULL) {
         printf("no memory\n");
         exit(1);
     }
-    const uint8_t *none = part;
+    same("functions that take a class or an order", sizeof every / sizeof *every, 24);
+    for (size_t f = 0; f < sizeof every / sizeof *every; f++) {
+        const char *name = every[f].name;
+        for (size_t l = 0; l < sizeof lengths / sizeof *lengths; l++) {
+            for (int number = 0; number < 256; number++) {
+                const uint8_t k = (uint8_t)number;
+                const uint64_t wanted = number == 1 || number == 2 ? 0 : FETULOMBO_UNKNOWN_KIND;
+                for (uint8_t right = 1; right < 3; right++) {
+                    const uint64_t by_class = refusal_of(f, k, right, p, lengths[l]);
+                    const uint64_t by_order = refusal_of(f, right, k, p, lengths[l]);
+                    same(name, by_class == FETULOMBO_UNKNOWN_KIND, every[f].takes_class && wanted);
+                    same(name, by_order == FETULOMBO_UNKNOWN_KIND, every[f].takes_order && wanted);
+                }
+                same(name, refusal_of(f, k, k, p, lengths[l]) == FETULOMBO_UNKNOWN_KIND, wanted != 0);
+            }
+        }
+        for (uint8_t k = 0; k < 4; k++) {
+            same(name, refusal_of(f, k, k, p, FETULOMBO_LIMIT + 1), FETULOMBO_TOO_LONG);
+        }
+    }
+    /* Also where the answer would be "not this kind". */
+    same("dynamic of another kind", fetulombo_segment_dynamic(0, p, 0, 1, 0, 0).refusal, FETULOMBO_UNKNOWN_KIND);
+    same("properties of another kind", fetulombo_gnu_properties(E32, 3, 4, p, 0, p, 0).refusal, FETULOMBO_UNKNOWN_KIND);
+    /* A reader is then at its end, and the store is all 0. */
+    same("note, next of no order", fetulombo_note_step(0, 4, p, 31, 0).next, 31);
+    same("property, next of no class", fetulombo_property_step(3, FETULOMBO_LITTLE, p, 31, 0).next, 31);
+    same("property, next of no order", fetulombo_property_step(FETULOMBO_ELF32, 0, p, 31, 8).next, 31);
+    uint32_t filled[12];
+    memset(filled, 0xff, sizeof filled);
+    same("parse, no order", fetulombo_versions_parse(255, p, 0, p, 0, p, 0, filled, 12).refusal,
+         FETULOMBO_UNKNOWN_KIND);
+    for (size_t i = 0; i < 12; i++) {
+        same("parse, no order, the store", filled[i], 0);
+    }
+    /* A library without class or order. */
+    fetulombo_library library = small_library();
+    const fetulombo_wanted wanted = fetulombo_want(fetulombo_text("a"));
+    library.elf_class = 0;
+    same("a library of no class", fetulombo_library_gnu_find(&library, &wanted).refusal, FETULOMBO_UNKNOWN_KIND);
+    same("a library of no class", fetulombo_library_sysv_check(&library).refusal, FETULOMBO_UNKNOWN_KIND);
+    library.elf_class = FETULOMBO_ELF32;
+    library.order = 0;
+    same("a library of no order", fetulombo_library_sysv_find(&library, &wanted).refusal, FETULOMBO_UNKNOWN_KIND);
+    same("a library of no order", fetulombo_library_gnu_check(&library).refusal, FETULOMBO_UNKNOWN_KIND);
+    free(long_part);
+}
+
+/* A section of a file of 64 bits, by its number: its type, the number of the section that it goes with, and its
+ * bytes. */
+typedef struct {
+    uint64_t type;
+    uint64_t link;
+    fetulombo_bytes bytes;
+} section;
+
+static section section_at(uint8_t order, fetulombo_bytes file, uint64_t number) {
+    const uint64_t at = fetulombo_u64_at(order, file.data, file.length, 0x28).value + number * 64;
+    const fetulombo_place place = fetulombo_segment_data(
+        file.data, file.length, fetulombo_u64_at(order, file.data, file.length, at + 24).value,
+        fetulombo_u64_at(order, file.data, file.length, at + 32).value);
+    same("a section of the file", place.refusal, 0);
+    return (section){fetulombo_u32_at(order, file.data, file.length, at + 4).value,
+                     fetulombo_u32_at(order, file.data, file.length, at + 40).value,
+                     fetulombo_bytes_of(file, place)};
+}
+
+/* The library of fixtures/lot: class and order as the file has them, the parts from its sections. */
+static void real_file(const char *path) {
+    static uint8_t bytes[65536];
+    FILE *opened = fopen(path, "rb");
+    const size_t length = opened == NULL ? 0 : fread(bytes, 1, sizeof bytes, opened);
+    if (opened != NULL) {
+        fclose(opened);
+    }
+    same("the length of the file", length > 64 && length < sizeof bytes, 1);
+    const fetulombo_bytes file = {bytes, length};
+    fetulombo_library library = {0};
+    library.elf_class = bytes[4];
+    library.order = bytes[5];
+    same("the file's class", library.elf_class, FETULOMBO_ELF64);
+    same("the file's order", library.order, FETULOMBO_LITTLE);
+    const uint64_t sections = fetulombo_u16_at(library.order, bytes, length, 0x3c).value;
+    for (uint64_t i = 1; i < sections; i++) {
+        const section one = section_at(library.order, file, i);
+        switch (one.type) {
+        case 0x6ffffff6: library.gnu_table = one.bytes; break;
+        case 11:
+            library.symbols = one.bytes;
+            library.strings = section_at(library.order, file, one.link).bytes;
+            break;
+        case 0x6fffffff: library.versyms = one.bytes; break;
+        case 0x6ffffffd:
+            library.definitions = one.bytes;
+            library.version_strings = section_at(library.order, file, one.link).bytes;
+            break;
+        }
+    }
+    uint32_t store[FETULOMBO_ENTRY * 4];
+    const fetulombo_number parsed = fetulombo_library_parse_versions(&library, store, FETULOMBO_ENTRY * 4);
+    same("the file's versions, refusal", parsed.refusal, 0);
+    same("the file's versions", parsed.value, 3);
+    same("the file's symbols", fetulombo_library_symbol_count(&library).value, 7);
+    same("the file's symbols, by the table", fetulombo_library_gnu_length(&library).symbols, 7);
+    same("the file's table", fetulombo_library_gnu_check(&library).accepted, 1);
+    same("its longest chain", fetulombo_library_gnu_check(&library).longest, 3);
+    const struct {
+        const char *name, *version;
+        uint64_t symbol, probes; /* symbol 0: none */
+    } imports[] = {
+        {"import_lot", "LOT_1.0", 5, 2}, {"import_lot", "LOT_2.0", 4, 1}, {"import_lot", NULL, 4, 1},
+        {"import_lot", "LOT_3.0", 0, 2}, {"seal_lot", "LOT_1.0", 1, 1},   {"seal_lot", NULL, 1, 1},
+        {"void_lot", "LOT_1.0", 0, 0},
+    };
+    for (size_t i = 0; i < sizeof imports / sizeof *imports; i++) {
+        fetulombo_wanted wanted = fetulombo_want(fetulombo_text(imports[i].name));
+        if (imports[i].version != NULL) {
+            fetulombo_want_version(&wanted, fetulombo_text(imports[i].version));
+        }
+        const fetulombo_hashes hashes = fetulombo_hashes_of(&wanted);
+        const fetulombo_lookup found = fetulombo_library_gnu_find(&library, &wanted);
+        same_lookup(imports[i].name, found, imports[i].symbol != 0, imports[i].symbol, imports[i].probes);
+        same_lookup(imports[i].name, fetulombo_library_gnu_find_hashed(&library, &wanted, &hashes),
+                    imports[i].symbol != 0, imports[i].symbol, imports[i].probes);
+        if (!found.found) {
+            continue;
+        }
+        const uint32_t symbol = (uint32_t)found.symbol;
+        const fetulombo_bytes name =
+            fetulombo_bytes_of(library.strings, fetulombo_library_symbol_name(&library, symbol));
+        same("the found name", name.length == wanted.name.length && !memcmp(name.data, wanted.name.data, name.length), 1);
+        same("the found version", fetulombo_library_version_matches(&library, &wanted, symbol).value, 1);
+        same("the found symbol", fetulombo_library_symbol_at(&library, symbol).info, 0x12);
+    }
+    same("import_lot@LOT_1.0, index", fetulombo_library_version_of(&library, 5).index, 2);
+    same("import_lot@LOT_1.0, hidden", fetulombo_library_version_of(&library, 5).hidden, 1);
+    const fetulombo_version version = fetulombo_library_version_entry(&library, 2);
+    same("LOT_1.0", version.kind, 1);
+    same("LOT_1.0, name",
+         version.name_length == 7 && !memcmp(library.version_strings.data + version.name, "LOT_1.0", 7), 1);
+    library.order = FETULOMBO_BIG;
+    same("the file's versions, big", fetulombo_library_parse_versions(&library, store, 24).refusal,
+         FETULOMBO_BAD_VERDEF_AUX);
+    same("the file's table, big", fetulombo_library_gnu_check(&library).refusal, FETULOMBO_BAD_GNU_BLOOM);
+}
+
+/* A text for each refusal, each another. */
+static void texts(void) {
+    const char *unknown = fetulombo_refusal_text(UINT64_MAX);
+    for (uint64_t i = 0; i < 64; i++) {
+        const char *text = fetulombo_refusal_text(i);
+        same("a text", text[0] != 0, 1);
+        same("an unknown number", !strcmp(text, unknown), i == 38 || i > 39);
+        for (uint64_t j = 0; j < i && i < 38; j++) {
+            same("a text of its own", !strcmp(text, fetulombo_refusal_text(j)), 0);
+        }
+    }
+    same("text of 39", !strcmp(fetulombo_refusal_text(FETULOMBO_UNKNOWN_KIND),
+                               "a class or a byte order that is none"), 1);
+    char version[32];
+    snprintf(version, sizeof version, "%d.%d.%d", FETULOMBO_VERSION_MAJOR, FETULOMBO_VERSION_MINOR,
+             FETULOMBO_VERSION_PATCH);
+    same("version", !strcmp(version, FETULOMBO_VERSION), 1);
+}
+
+static void at_the_limit(const uint8_t *part) {
+    const size_t limit = FETULOMBO_LIMIT;
     same("string at the limit", fetulombo_string_at(part, limit, (uint32_t)limit - 1).refusal, 0);
+    same("word at the limit", fetulombo_u32_at(LE, part, limit, 0).refusal, 0);
+    same("count at the limit", fetulombo_symbol_count(E32, part, limit).value, limit / 16);
+    same("note at the limit", fetulombo_note_step(LE, 4, part, limit, limit - 12).found, 1);
+    same("segments at the limit", fetulombo_segment_count(E32, part, limit).value, limit / 32);
+    same("data at the limit", fetulombo_segment_data(part, limit, 0, limit).length, limit);
+}
+
+/* A part that is too long is refused before anything else, whether or not c and o are a class and an order. part
+ * has one byte more than the limit. */
+static void past_the_limit(const uint8_t *part, uint8_t c, uint8_t o) {
+    const size_t limit = FETULOMBO_LIMIT;
+    const uint8_t *none = part;
     same("string past it", fetulombo_string_at(part, limit + 1, 0).refusal, FETULOMBO_TOO_LONG);
     same("equals past it", fetulombo_string_equals(part, limit + 1, 0, none, 0).refusal, FETULOMBO_TOO_LONG);
     same("name past it", fetulombo_string_equals(none, 0, 0, part, limit + 1).refusal, FETULOMBO_TOO_LONG);
-    same("word at the limit", fetulombo_u32_at(0, part, limit, 0).refusal, 0);
-    same("u16 past it", fetulombo_u16_at(0, part, limit + 1, 0).refusal, FETULOMBO_TOO_LONG);
-    same("u32 past it", fetulombo_u32_at(0, part, limit + 1, 0).refusal, FETULOMBO_TOO_LONG);
-    same("u64 past it", fetulombo_u64_at(0, part, limit + 1, 0).refusal, FETULOMBO_TOO_LONG);
+    same("u16 past it", fetulombo_u16_at(o, part, limit + 1, 0).refusal, FETULOMBO_TOO_LONG);
+    same("u32 past it", fetulombo_u32_at(o, part, limit + 1, 0).refusal, FETULOMBO_TOO_LONG);
+    same("u64 past it", fetulombo_u64_at(o, part, limit + 1, 0).refusal, FETULOMBO_TOO_LONG);
     same("hash past it", fetulombo_gnu_hash(part, limit + 1).refusal, FETULOMBO_TOO_LONG);
     same("SysV hash past it", fetulombo_sysv_hash(part, limit + 1).refusal, FETULOMBO_TOO_LONG);
-    same("count at the limit", fetulombo_symbol_count(0, part, limit).value, limit / 16);
-    same("count past it", fetulombo_symbol_count(0, part, limit + 1).refusal, FETULOMBO_TOO_LONG);
-    same("symbol past it", fetulombo_symbol_at(0, 0, part, limit + 1, 0).refusal, FETULOMBO_TOO_LONG);
-    same("name with strings past it", fetulombo_symbol_name(0, 0, none, 0, part, limit + 1, 0).refusal, FETULOMBO_TOO_LONG);
-    same("name with symbols past it", fetulombo_symbol_name(0, 0, part, limit + 1, none, 0, 0).refusal, FETULOMBO_TOO_LONG);
+    same("count past it", fetulombo_symbol_count(c, part, limit + 1).refusal, FETULOMBO_TOO_LONG);
+    same("symbol past it", fetulombo_symbol_at(c, o, part, limit + 1, 0).refusal, FETULOMBO_TOO_LONG);
+    same("name with strings past it", fetulombo_symbol_name(c, o, none, 0, part, limit + 1, 0).refusal, FETULOMBO_TOO_LONG);
+    same("name with symbols past it", fetulombo_symbol_name(c, o, part, limit + 1, none, 0, 0).refusal, FETULOMBO_TOO_LONG);
     same("definition past it", fetulombo_symbol_is_definition(part, limit + 1, 0, 0, 0).refusal, FETULOMBO_TOO_LONG);
-    same("note past it", fetulombo_note_step(0, 5, part, limit + 1, 0).refusal, FETULOMBO_TOO_LONG);
-    same("note at the limit", fetulombo_note_step(0, 4, part, limit, limit - 12).found, 1);
+    same("note past it", fetulombo_note_step(o, 5, part, limit + 1, 0).refusal, FETULOMBO_TOO_LONG);
     same("trimmed past it", fetulombo_trimmed(part, limit + 1).refusal, FETULOMBO_TOO_LONG);
-    same("properties past it", fetulombo_gnu_properties(0, 0, 5, part, limit + 1, none, 0).refusal, FETULOMBO_TOO_LONG);
-    same("their descriptor too", fetulombo_gnu_properties(0, 0, 5, none, 0, part, limit + 1).refusal, FETULOMBO_TOO_LONG);
-    same("property past it", fetulombo_property_step(0, 0, part, limit + 1, 0).refusal, FETULOMBO_TOO_LONG);
-    same("number past it", fetulombo_property_number(0, part, limit + 1).refusal, FETULOMBO_TOO_LONG);
+    same("properties past it", fetulombo_gnu_properties(c, o, 5, part, limit + 1, none, 0).refusal, FETULOMBO_TOO_LONG);
+    same("their descriptor too", fetulombo_gnu_properties(c, o, 5, none, 0, part, limit + 1).refusal, FETULOMBO_TOO_LONG);
+    same("property past it", fetulombo_property_step(c, o, part, limit + 1, 0).refusal, FETULOMBO_TOO_LONG);
+    same("number past it", fetulombo_property_number(o, part, limit + 1).refusal, FETULOMBO_TOO_LONG);
     uint32_t store[12];
     memset(store, 0xff, sizeof store);
-    same("definitions past it", fetulombo_versions_parse(0, part, limit + 1, none, 0, none, 0, store, 12).refusal,
+    same("definitions past it", fetulombo_versions_parse(o, part, limit + 1, none, 0, none, 0, store, 12).refusal,
          FETULOMBO_TOO_LONG);
     same("store after it", store[0] | store[11], 0);
-    same("needs past it", fetulombo_versions_parse(0, none, 0, part, limit + 1, none, 0, store, 12).refusal,
+    same("needs past it", fetulombo_versions_parse(o, none, 0, part, limit + 1, none, 0, store, 12).refusal,
          FETULOMBO_TOO_LONG);
-    same("their strings too", fetulombo_versions_parse(0, none, 0, none, 0, part, limit + 1, store, 12).refusal,
+    same("their strings too", fetulombo_versions_parse(o, none, 0, none, 0, part, limit + 1, store, 12).refusal,
          FETULOMBO_TOO_LONG);
     same("entry past it", fetulombo_version_entry(store, 12, part, limit + 1, 0).refusal, FETULOMBO_TOO_LONG);
-    same("versyms past it", fetulombo_version_of(0, part, limit + 1, 0).refusal, FETULOMBO_TOO_LONG);
-    same("match past it", fetulombo_version_matches(0, none, 0, store, 12, none, 0, 0, 1, 0, part, limit + 1).refusal,
-         FETULOMBO_TOO_LONG);
+    same("versyms past it", fetulombo_version_of(o, part, limit + 1, 0).refusal, FETULOMBO_TOO_LONG);
+    /* The name's length counts also where no version is needed. */
+    for (uint8_t needed = 0; needed < 2; needed++) {
+        same("versyms past it",
+             fetulombo_version_matches(o, part, limit + 1, store, 12, none, 0, 0, needed, 0, none, 0).refusal,
+             FETULOMBO_TOO_LONG);
+        same("versions' strings past it",
+             fetulombo_version_matches(o, none, 0, store, 12, part, limit + 1, 0, needed, 0, none, 0).refusal,
+             FETULOMBO_TOO_LONG);
+        same("needed name past it",
+             fetulombo_version_matches(o, none, 0, store, 12, none, 0, 0, needed, 0, part, limit + 1).refusal,
+             FETULOMBO_TOO_LONG);
+    }
     for (int which = 0; which < 7; which++) {
         const size_t n = limit + 1;
 #define LENT(k) which == (k) ? part : none, which == (k) ? n : 0
         same("GNU lookup past it",
-             fetulombo_gnu_find(0, 0, LENT(0), LENT(1), LENT(2), LENT(3), store, 12, LENT(4), LENT(5), 0, 0, 0, LENT(6))
+             fetulombo_gnu_find(c, o, LENT(0), LENT(1), LENT(2), LENT(3), store, 12, LENT(4), LENT(5), 0, 0, 0, LENT(6))
                  .refusal,
              FETULOMBO_TOO_LONG);
         same("SysV lookup past it",
-             fetulombo_sysv_find(0, 0, LENT(0), LENT(1), LENT(2), LENT(3), store, 12, LENT(4), LENT(5), 0, 0, 0, LENT(6))
+             fetulombo_sysv_find(c, o, LENT(0), LENT(1), LENT(2), LENT(3), store, 12, LENT(4), LENT(5), 0, 0, 0, LENT(6))
                  .refusal,
              FETULOMBO_TOO_LONG);
         if (which < 3) {
-            same("GNU check past it", fetulombo_gnu_check(0, 0, LENT(0), LENT(1), LENT(2)).refusal, FETULOMBO_TOO_LONG);
-            same("SysV check past it", fetulombo_sysv_check(0, 0, LENT(0), LENT(1), LENT(2)).refusal, FETULOMBO_TOO_LONG);
+            same("GNU check past it", fetulombo_gnu_check(c, o, LENT(0), LENT(1), LENT(2)).refusal, FETULOMBO_TOO_LONG);
+            same("SysV check past it", fetulombo_sysv_check(c, o, LENT(0), LENT(1), LENT(2)).refusal, FETULOMBO_TOO_LONG);
         }
 #undef LENT
     }
-    same("GNU length past it", fetulombo_gnu_length(0, 0, part, limit + 1).refusal, FETULOMBO_TOO_LONG);
-    same("GNU base past it", fetulombo_gnu_base(0, 0, part, limit + 1).refusal, FETULOMBO_TOO_LONG);
-    same("SysV length past it", fetulombo_sysv_length(0, part, limit + 1).refusal, FETULOMBO_TOO_LONG);
-    same("segments at the limit", fetulombo_segment_count(0, part, limit).value, limit / 32);
-    same("segments past it", fetulombo_segment_count(0, part, limit + 1).refusal, FETULOMBO_TOO_LONG);
-    same("segment past it", fetulombo_segment_at(0, 0, part, limit + 1, 0).refusal, FETULOMBO_TOO_LONG);
-    same("data at the limit", fetulombo_segment_data(part, limit, 0, limit).length, limit);
+    same("GNU length past it", fetulombo_gnu_length(c, o, part, limit + 1).refusal, FETULOMBO_TOO_LONG);
+    same("GNU base past it", fetulombo_gnu_base(c, o, part, limit + 1).refusal, FETULOMBO_TOO_LONG);
+    same("SysV length past it", fetulombo_sysv_length(o, part, limit + 1).refusal, FETULOMBO_TOO_LONG);
+    same("segments past it", fetulombo_segment_count(c, part, limit + 1).refusal, FETULOMBO_TOO_LONG);
+    same("segment past it", fetulombo_segment_at(c, o, part, limit + 1, 0).refusal, FETULOMBO_TOO_LONG);
     same("data past it", fetulombo_segment_data(part, limit + 1, 0, 0).refusal, FETULOMBO_TOO_LONG);
     same("range past it", fetulombo_segment_data_range(part, limit + 1, 0, 0, 0, 0, 0).refusal, FETULOMBO_TOO_LONG);
-    same("dynamic past it", fetulombo_segment_dynamic(0, part, limit + 1, 1, 0, 0).refusal, FETULOMBO_TOO_LONG);
-    same("entry past it", fetulombo_segment_dynamic_entry(0, 0, part, limit + 1, 0).refusal, FETULOMBO_TOO_LONG);
+    same("dynamic past it", fetulombo_segment_dynamic(c, part, limit + 1, 1, 0, 0).refusal, FETULOMBO_TOO_LONG);
+    same("entry past it", fetulombo_segment_dynamic_entry(c, o, part, limit + 1, 0).refusal, FETULOMBO_TOO_LONG);
     same("interpreter past it", fetulombo_segment_interpreter(part, limit + 1, 1, 0, 0).refusal, FETULOMBO_TOO_LONG);
     same("notes past it", fetulombo_segment_notes(part, limit + 1, 1, 0, 0, 0).refusal, FETULOMBO_TOO_LONG);
+    /* The same through the structs: each part in turn, and each name, whose hash is then refused too. */
+    const fetulombo_bytes too_long = {part, limit + 1};
+    for (int which = 0; which < 14; which++) {
+        fetulombo_library library = small_library();
+        fetulombo_wanted wanted = fetulombo_want(fetulombo_text("a"));
+        wanted.needed = which % 2;
+        library.elf_class = c;
+        library.order = o;
+        fetulombo_bytes *lent[] = {&library.gnu_table, &library.symbols, &library.strings, &library.versyms,
+                                   &library.version_strings, &wanted.name, &wanted.version};
+        *lent[which / 2] = too_long;
+        if (which / 2 == 0) {
+            library.sysv_table = too_long;
+        }
+        const fetulombo_hashes hashes = fetulombo_hashes_of(&wanted);
+        same("GNU lookup past it", fetulombo_library_gnu_find(&library, &wanted).refusal, FETULOMBO_TOO_LONG);
+        same("SysV lookup past it", fetulombo_library_sysv_find(&library, &wanted).refusal, FETULOMBO_TOO_LONG);
+        same("GNU lookup past it, hashed", fetulombo_library_gnu_find_hashed(&library, &wanted, &hashes).refusal,
+             FETULOMBO_TOO_LONG);
+        same("SysV lookup past it, hashed", fetulombo_library_sysv_find_hashed(&library, &wanted, &hashes).refusal,
+             FETULOMBO_TOO_LONG);
+        if (which / 2 < 3) {
+            same("GNU check past it", fetulombo_library_gnu_check(&library).refusal, FETULOMBO_TOO_LONG);
+            same("SysV check past it", fetulombo_library_sysv_check(&library).refusal, FETULOMBO_TOO_LONG);
+        }
+        if (which / 2 > 2 && which / 2 != 5) {
+            same("match past it", fetulombo_library_version_matches(&library, &wanted, 1).refusal, FETULOMBO_TOO_LONG);
+        }
+    }
+}
+
+static void limits(void) {
+    uint8_t *part = calloc(FETULOMBO_LIMIT + 1, 1);
+    if (part == NULL) {
+        printf("no memory\n");
+        exit(1);
+    }
+    at_the_limit(part);
+    past_the_limit(part, FETULOMBO_ELF32, FETULOMBO_LITTLE);
+    past_the_limit(part, FETULOMBO_ELF64, FETULOMBO_BIG);
+    past_the_limit(part, 0, 0);
+    past_the_limit(part, 3, 255);
     free(part);
 }
 
-int main(void) {
+int main(int count, char **arguments) {
     words();
     strings();
     hashes();
     symbols();
     notes();
     versions();
+    refusals_in_order();
     lookups();
+    versioned();
+    lengths();
     checks();
+    nulls();
+    kinds();
     segments();
     limits();
+    texts();
+    real_file(count > 1 ? arguments[1] : "fixtures/lot/liblot.so");
     if (failures != 0) {
         return 1;
     }
