@@ -88,9 +88,10 @@ run:
 test:
 	tests/all
 
-# What the pages say, held against the crates.
+# Which definitions must be believed, and what the pages say, held against the crates.
 words:
-	@if [ -x tests/believed ]; then tests/believed; fi
+	tests/believed
+	tests/pages
 
 proved:
 	rt check $(BELOW)
