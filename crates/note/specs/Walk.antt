@@ -1,4 +1,5 @@
--- All the notes of a section, from the step's definition (01, module 4): the notes in order, and how it ends.
+-- Need not be believed for a promise: all the notes of a section, in order, and how they end (01, module 4). Document 01's cases
+-- state it; it follows from the step's definition.
 --     Ending, NoteList       at the end or with a refusal, and the notes before that
 --     none, onto             no notes, and one more in front
 --     afterStep              what a step adds to the list of the reader after it

@@ -10,7 +10,8 @@ use word::u32_at;
 ghost use mathlib.Core.Path.{_≡_};
 ghost use Prim.Native.Nat.{_+_, _<_};
 ghost use Rattle.note.specs.Notes.{aligned};
-ghost use Rattle.property_reader.specs.Reader.{propertyAlign, to, propertyStep, propertyReaderAfter, propertyNumber};
+ghost use Rattle.property_reader.specs.Reader.{propertyAlign, propertyStep, propertyNumber, propertyReaderAt};
+ghost use Rattle.property_reader.specs.After.{propertyReaderAfter};
 
 // The bytes of a property's type and size.
 pub const PROPERTY_HEADER: usize = 8;
@@ -55,7 +56,7 @@ fn padded(class: Class, n: usize) -> usize
 impl PropertyReader {
     // The same reader at another place.
     fn moved(self, at: usize) -> PropertyReader
-        ensures { λ r. ⌜ r ≡ to self at ⌝ }
+        ensures { λ r. ⌜ r ≡ propertyReaderAt self at ⌝ }
     {
         let class = self.class;
         let order = self.order;

@@ -6,7 +6,8 @@ use endian::refusals::TOO_LONG;
 use name_match::reads_name;
 use zero_search::first_zero;
 ghost use mathlib.Core.Path.{_≡_};
-ghost use Rattle.strings.specs.Strings.{afterZero, stringAt, stringEquals};
+ghost use Rattle.strings.specs.Strings.{stringAt, stringEquals};
+ghost use Rattle.strings.specs.AfterZero.{afterZero};
 
 // A part of the lent strings, without its zero.
 pub enum StringAt {

@@ -10,7 +10,7 @@ ghost use mathlib.Core.Path.{_≡_};
 ghost use mathlib.Core.Bool.{true};
 ghost use Prim.Native.Nat.{_+_, _≤_};
 ghost use lib.ListN.{length, take, drop};
-ghost use Rattle.strings.specs.Strings.{same};
+ghost use Rattle.endian.specs.First.{same};
 ghost use Rattle.version.specs.Table.{inside};
 ghost use Rattle.version_match.specs.Match.{isNeeded, matching};
 

@@ -15,8 +15,9 @@ ghost use mathlib.Core.List.{[], _∷_};
 ghost use mathlib.Core.Path.{_≡_};
 ghost use lib.ListN.{length};
 ghost use Rattle.endian.specs.Refusals.{anyLong};
-ghost use Rattle.version_highest.specs.Highest.{highRefusal};
-ghost use Rattle.version_parse.specs.Parse.{parsedInto, parsed, parsedOutcome, answerOf, storeAfter};
+ghost use Rattle.version_highest.specs.HighestAnswers.{highRefusal};
+ghost use Rattle.version_parse.specs.Parse.{parsedInto, parsed, answerOf, storeAfter};
+ghost use Rattle.version_parse.specs.ParseAnswers.{parsedOutcome};
 
 // The highest index of the version sections, which the store then has room for.
 pub enum Parsed {

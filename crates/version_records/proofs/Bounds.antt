@@ -14,7 +14,6 @@ use borrow.Author.Tests.{eqb-false}
 use Rattle.endian.specs.declared.kinds.Order.{Order}
 use Rattle.endian.specs.declared.refusals.Refusal.{Refusal}
 use Rattle.endian.specs.Word.{fieldAt}
-use Rattle.version_layout.specs.Layouts.{field}
 use Rattle.version_records.specs.Outcome.Outcome.{fine, stop}
 use Rattle.version_records.specs.Walk.Walk.{end, broken, more}
 use Rattle.version_records.specs.Records.{placeAfter, recordAt, auxAt, listed, vernauxs, vernauxShape}
@@ -34,10 +33,10 @@ place-past n at next h = by (eqb next 0) refl
 
 module _ (shape : ListShape) (order : Order) (s : List ℕ) (at : ℕ) where
   abbrev aux : ℕ
-  aux = fieldAt order s at (field (shape .aux) 4)
+  aux = fieldAt order s at 4 (shape .aux)
 
   abbrev next : ℕ
-  next = fieldAt order s at (field (shape .next) 4)
+  next = fieldAt order s at 4 (shape .next)
 
   abbrev whole : Record
   whole = record { at = at; aux = at + aux; next = placeAfter (length s) at next }

@@ -6,8 +6,6 @@
 --     recordAt, auxAt              the record of a list, of a chain, at a place: short, aux, next, in that order
 --     listed, verdefs, verneeds    the records of a list from a place on
 --     vernauxs                     the records of a chain: as many as the count says; a `next` of 0 repeats the record
---     recordStep, auxStep          what is answered
---     recordOutcome, auxOutcome    what a step says
 --     needCount                    of a need: how many versions it has
 -- Assumes nothing.
 use Prim.Native.Nat.{ℕ, _+_, _-_}
@@ -18,22 +16,20 @@ use lib.Dec.{ltb, eqb}
 use Rattle.endian.specs.declared.kinds.Order.{Order}
 use Rattle.endian.specs.Refusals.{verdefShort, badVerdefAux, badVerdefNext, verdauxShort, badVerdauxNext, verneedShort, badVerneedAux, badVerneedNext, vernauxShort, badVernauxNext}
 use Rattle.endian.specs.Word.{fieldAt}
-use Rattle.version_layout.specs.Layouts.{field, verdef, verdaux, verneed, vernaux}
+use Rattle.version_layout.specs.Layouts.{fieldOf, verdef, verdaux, verneed, vernaux}
 use Rattle.version_records.specs.Outcome.{Outcome}
 use Rattle.version_records.specs.Outcome.Outcome.{fine, stop}
 use Rattle.version_records.specs.Walk.{Walk, chain, counted}
 use Rattle.version_records.specs.declared.records.ListShape.{ListShape}
 use Rattle.version_records.specs.declared.records.ChainShape.{ChainShape}
 use Rattle.version_layout.specs.declared.steps.Record.{Record}
-use Rattle.version_layout.specs.declared.steps.RecordStep.{RecordStep}
 use Rattle.version_layout.specs.declared.steps.Aux.{Aux}
-use Rattle.version_layout.specs.declared.steps.AuxStep.{AuxStep}
 
 abbrev pub verdefShape : ListShape
 verdefShape = record {
   size = 20;
-  aux = verdef .aux .at;
-  next = verdef .next .at;
+  aux = verdef .aux .1;
+  next = verdef .next .1;
   short = verdefShort;
   «bad_aux» = badVerdefAux;
   «bad_next» = badVerdefNext;
@@ -42,18 +38,18 @@ verdefShape = record {
 abbrev pub verneedShape : ListShape
 verneedShape = record {
   size = 16;
-  aux = verneed .aux .at;
-  next = verneed .next .at;
+  aux = verneed .aux .1;
+  next = verneed .next .1;
   short = verneedShort;
   «bad_aux» = badVerneedAux;
   «bad_next» = badVerneedNext;
 }
 
 abbrev pub verdauxShape : ChainShape
-verdauxShape = record { size = 8; next = verdaux .next .at; short = verdauxShort; «bad_next» = badVerdauxNext }
+verdauxShape = record { size = 8; next = verdaux .next .1; short = verdauxShort; «bad_next» = badVerdauxNext }
 
 abbrev pub vernauxShape : ChainShape
-vernauxShape = record { size = 16; next = vernaux .next .at; short = vernauxShort; «bad_next» = badVernauxNext }
+vernauxShape = record { size = 16; next = vernaux .next .1; short = vernauxShort; «bad_next» = badVernauxNext }
 
 unfoldable pub placeAfter : (count at next : ℕ) → ℕ
 placeAfter count at next = cond (eqb next 0) count (at + next)
@@ -61,8 +57,8 @@ placeAfter count at next = cond (eqb next 0) count (at + next)
 unfoldable pub recordAt : ListShape → Order → List ℕ → ℕ → Outcome Record
 recordAt shape order s at =
     let left = length s - at in
-    let aux = fieldAt order s at (field (shape .aux) 4) in
-    let next = fieldAt order s at (field (shape .next) 4) in
+    let aux = fieldAt order s at 4 (shape .aux) in
+    let next = fieldAt order s at 4 (shape .next) in
     cond (ltb left (shape .size)) (stop (shape .short))
     (cond (ltb left aux) (stop (shape .«bad_aux»))
     (cond (ltb left next) (stop (shape .«bad_next»))
@@ -71,7 +67,7 @@ recordAt shape order s at =
 unfoldable pub auxAt : ChainShape → Order → List ℕ → ℕ → Outcome Aux
 auxAt shape order s at =
     let left = length s - at in
-    let next = fieldAt order s at (field (shape .next) 4) in
+    let next = fieldAt order s at 4 (shape .next) in
     cond (ltb left (shape .size)) (stop (shape .short))
     (cond (ltb left next) (stop (shape .«bad_next»))
     (fine (record { at = at; next = at + next })))
@@ -88,21 +84,5 @@ verneeds order s at = listed verneedShape order s at
 abbrev pub vernauxs : Order → List ℕ → (count at : ℕ) → Walk Aux
 vernauxs order s count at = counted (auxAt vernauxShape order s) (λ a. a .next) count at
 
-abbrev pub recordStep : Outcome Record → RecordStep
-recordStep (fine r) = RecordStep.Is r
-recordStep (stop e) = RecordStep.Refused e
-
-abbrev pub auxStep : Outcome Aux → AuxStep
-auxStep (fine a) = AuxStep.Is a
-auxStep (stop e) = AuxStep.Refused e
-
-abbrev pub recordOutcome : RecordStep → Outcome Record
-recordOutcome (RecordStep.Is r) = fine r
-recordOutcome (RecordStep.Refused e) = stop e
-
-abbrev pub auxOutcome : AuxStep → Outcome Aux
-auxOutcome (AuxStep.Is a) = fine a
-auxOutcome (AuxStep.Refused e) = stop e
-
 abbrev pub needCount : Order → List ℕ → Record → ℕ
-needCount order s r = fieldAt order s (r .at) (verneed .cnt)
+needCount order s r = fieldOf order s (r .at) (verneed .cnt)

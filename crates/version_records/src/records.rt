@@ -19,7 +19,8 @@ use version_layout::steps::RecordStep;
 use word::u32_at;
 ghost use mathlib.Core.Path.{_≡_};
 ghost use Prim.Native.Nat.{_+_, _≤_, _<_};
-ghost use Rattle.version_records.specs.Records.{verdefShape, verneedShape, verdauxShape, vernauxShape, placeAfter, recordAt, recordStep, auxAt, auxStep};
+ghost use Rattle.version_records.specs.Records.{verdefShape, verneedShape, verdauxShape, vernauxShape, placeAfter, recordAt, auxAt};
+ghost use Rattle.version_records.specs.RecordAnswers.{recordStep, auxStep};
 
 // What a record of a list is tested for: its size, where its aux and its next stand, and the
 // refusals, in the order of the tests.
