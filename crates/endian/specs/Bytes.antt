@@ -1,5 +1,4 @@
--- Need not be believed: every element of a list is a byte, as every element of a lent slice is. An inner contract cites it.
--- Assumes nothing.
+-- Need not be believed: every element of a list is a byte. An inner contract cites it. Assumes nothing.
 use Prim.Native.Nat.{ℕ, _<_}
 use mathlib.Core.List.{List}
 use lib.ListN.{getD}

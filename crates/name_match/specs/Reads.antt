@@ -1,4 +1,4 @@
--- Need not be believed: whether the string at the front of the bytes that are left is a name. The contracts of this crate cite it.
+-- Need not be believed: whether the string at the front of bytes is a name. Inner contracts cite it.
 --     text        what stands before the first zero
 --     reads       whether a zero is there, and what stands before it is the name
 -- Assumes nothing.

@@ -1,2 +1,2 @@
-pub mod Part
+pub mod LentPart
 pub mod Trim

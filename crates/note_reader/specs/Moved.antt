@@ -1,4 +1,4 @@
--- Need not be believed: a step's answer, and the reader that stands after it. A private contract cites it. Assumes nothing.
+-- Need not be believed: a step's answer, and the reader that stands after it. An inner contract cites it. Assumes nothing.
 use Rattle.note.specs.Notes.{readerAfter}
 use Rattle.note.specs.declared.reader.NoteStep.{NoteStep}
 use Rattle.note_reader.specs.declared.Moved.{Moved}

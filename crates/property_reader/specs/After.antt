@@ -1,5 +1,5 @@
--- Need not be believed: the reader that stands after a step. The contract of `PropertyStep::reader`, which no exported function calls,
--- cites it. Assumes nothing.
+-- Need not be believed: the reader that stands after a step. The contract of `PropertyStep::reader` cites it, which no
+-- exported function calls. Assumes nothing.
 use Rattle.property_reader.specs.declared.PropertyReader.{PropertyReader}
 use Rattle.property_reader.specs.declared.PropertyStep.{PropertyStep}
 use Rattle.property_reader.specs.declared.PropertyStep.the-variants.{Property as Step·Property, End, Refused}

@@ -44,8 +44,8 @@ abbrev pub propertyOf : PropertyReader → List ℕ → Property
 propertyOf reader s =
     record { kind = fieldAt (reader .order) s (reader .at) 4 0; start = reader .at + 8; size = propertySize reader s }
 
--- the padding must be present: a property is whole if the bytes reach to where the next one starts; a refused reader stands at
--- their end
+-- the padding must be present: a property is whole if the bytes reach to where the next one starts; a refused reader
+-- stands at the end of the bytes
 unfoldable pub propertyStep : PropertyReader → List ℕ → PropertyStep
 propertyStep reader s =
     cond (ltb limit (length s)) (Refused tooLong (propertyReaderAt reader (length s)))

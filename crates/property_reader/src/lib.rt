@@ -63,8 +63,10 @@ impl PropertyReader {
         PropertyReader { class, order, at }
     }
 
-    // One property further. Refused in this order: bytes that are too long; a property that is not
-    // whole, its padding included. A refused reader stands at their end.
+    // One property further, from any place. Refused first: bytes that are too long. Then a reader at
+    // or past their end is at its end, and stays as it is. Then refused: a property that is not whole,
+    // its padding included. A refused reader stands at the end of these bytes, where the next step
+    // over them finds the end unless they are too long.
     pub fn step(self, bytes: &[u8]) -> PropertyStep
         ensures { λ r. ⌜ r ≡ propertyStep self (now (bytes .entry)) ⌝ }
     {

@@ -1,5 +1,5 @@
--- Need not be believed: p_offset and p_filesz. The contract of `Segment::file_range`, which no exported function calls, cites it.
--- Assumes nothing.
+-- Need not be believed: p_offset and p_filesz. The contract of `Segment::file_range` cites it, which no exported function
+-- calls. Assumes nothing.
 use Rattle.segment_entry.specs.declared.Segment.{Segment}
 use Rattle.segment_entry.specs.declared.FileRange.{FileRange}
 

@@ -45,7 +45,7 @@ pub fn string_equals(strings: &[u8], offset: u32, name: &[u8]) -> bool
     reads_name(strings, offset as usize, name)
 }
 
-// The place after the last zero byte, or 0: a string can be read exactly if it starts below it.
+// The place after the last zero byte, or 0: exactly a string that starts below it has a zero.
 pub fn after_last_zero(strings: &[u8]) -> usize
     ensures { λ r. ⌜ r ≡ afterZero (now (strings .entry)) ⌝ }
 {

@@ -1,7 +1,8 @@
 -- The match (01, "Match").
 --     versionName            the bytes of a version's name
 --     isNeeded, satisfied    whether a version has the hash and the name; whether what is behind an index is what is needed
---     matching               whether the version of a symbol is the one that is needed; never where a part is too long
+--     matching               whether the version of a symbol is the one that is needed; never where versyms or strings
+--                            are too long. A name is not held to the limit: one that is too long is no version's
 -- Assumes nothing.
 use Prim.Native.Nat.{ℕ}
 use mathlib.Core.List.{List}

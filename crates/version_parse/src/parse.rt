@@ -72,10 +72,10 @@ fn attempt(order: Order, verdef: &[u8], verneed: &[u8], strings: &[u8], store: &
     }
 }
 
-// Parses the definitions and the needs into the store: an entry for each index up to the highest, and
-// 0 in every further number. An absent section is an empty one. Refused in this order: a section or
-// strings that are too long; what the first pass refuses; a store with no room for the highest index;
-// what the second pass refuses. After a refusal the whole store is 0.
+// Parses the definitions and the needs into the store: the numbers of each version at its index, and 0
+// in every other number. An absent section is an empty one. Refused in this order: a section or strings
+// that are too long; what the first pass refuses; a store with no room for the highest index; what the
+// second pass refuses. After a refusal the whole store is 0.
 pub fn parse(
     order: Order,
     verdef: &[u8],

@@ -21,7 +21,7 @@ use Rattle.version_records.specs.declared.records.ListShape.{ListShape}
 use Rattle.version_layout.specs.declared.steps.Record.{Record}
 use Rattle.version_layout.specs.declared.steps.Aux.{Aux}
 use Rattle.version_records.proofs.Outcomes.{fine-same, cond-fine}
-use Rattle.version_records.proofs.Walks.{chain-end, chain-more, chain-stop, counted-end, counted-more, counted-stop}
+use Rattle.version_records.proofs.Walks.{linked-end, linked-more, linked-stop, counted-end, counted-more, counted-stop}
 
 place-past : (n at next : ℕ) → at < n → at < placeAfter n at next
 unfolding placeAfter
@@ -58,7 +58,7 @@ module _ (shape : ListShape) (order : Order) (s : List ℕ) (at : ℕ) where
     record-onward h = rw (record-read) (place-past _ _ _ h)
 
   pub listed-end : length s ≤ at → listed shape order s at ≡ end
-  listed-end h = chain-end (recordAt shape order s) (λ r. r .next) (length s) at h
+  listed-end h = linked-end (recordAt shape order s) (λ r. r .next) (length s) at h
 
 module _ (shape : ListShape) (order : Order) (s : List ℕ) (at : ℕ) (inside : at < length s) where
   onward : (at : ℕ) (r : Record) → at < length s → recordAt shape order s at ≡ fine r → at < r .next
@@ -66,10 +66,10 @@ module _ (shape : ListShape) (order : Order) (s : List ℕ) (at : ℕ) (inside :
 
   pub listed-more : (r : Record) → recordAt shape order s at ≡ fine r
       → listed shape order s at ≡ more r (listed shape order s (r .next))
-  listed-more r read = chain-more (recordAt shape order s) (λ r. r .next) (length s) onward at r inside read
+  listed-more r read = linked-more (recordAt shape order s) (λ r. r .next) (length s) onward at r inside read
 
   pub listed-stop : (e : Refusal) → recordAt shape order s at ≡ stop e → listed shape order s at ≡ broken e
-  listed-stop e read = chain-stop (recordAt shape order s) (λ r. r .next) (length s) onward at e inside read
+  listed-stop e read = linked-stop (recordAt shape order s) (λ r. r .next) (length s) onward at e inside read
 
 module _ (order : Order) (s : List ℕ) (left at : ℕ) where
   pub vernauxs-end : left ≤ 0 → vernauxs order s left at ≡ end

@@ -1,7 +1,8 @@
 -- The records of the version sections at a place (01, module 5), and their lists. Places count from their record and may
 -- reach the end.
---     verdefShape, verneedShape    what a record of a list is tested for, and its refusals
---     verdauxShape, vernauxShape   the same of a record of a chain
+--     listShape                    what a record of a list is tested for: size, places of aux and next, refusals
+--     verdefShape, verneedShape    those of the two lists
+--     verdauxShape, vernauxShape   the same of a record of a chain, which has no aux
 --     placeAfter                   where the next record of a list is: the end where `next` is 0
 --     recordAt, auxAt              the record of a list, of a chain, at a place: short, aux, next, in that order
 --     listed, verdefs, verneeds    the records of a list from a place on
@@ -14,36 +15,27 @@ use mathlib.Core.Bool.{cond}
 use lib.ListN.{length}
 use lib.Dec.{ltb, eqb}
 use Rattle.endian.specs.declared.kinds.Order.{Order}
+use Rattle.endian.specs.declared.refusals.Refusal.{Refusal}
 use Rattle.endian.specs.Refusals.{verdefShort, badVerdefAux, badVerdefNext, verdauxShort, badVerdauxNext, verneedShort, badVerneedAux, badVerneedNext, vernauxShort, badVernauxNext}
 use Rattle.endian.specs.Word.{fieldAt}
 use Rattle.version_layout.specs.Layouts.{fieldOf, verdef, verdaux, verneed, vernaux}
 use Rattle.version_records.specs.Outcome.{Outcome}
 use Rattle.version_records.specs.Outcome.Outcome.{fine, stop}
-use Rattle.version_records.specs.Walk.{Walk, chain, counted}
+use Rattle.version_records.specs.Walk.{Walk, linked, counted}
 use Rattle.version_records.specs.declared.records.ListShape.{ListShape}
 use Rattle.version_records.specs.declared.records.ChainShape.{ChainShape}
 use Rattle.version_layout.specs.declared.steps.Record.{Record}
 use Rattle.version_layout.specs.declared.steps.Aux.{Aux}
 
+abbrev pub listShape : (size aux next : ℕ) → (short badAux badNext : Refusal) → ListShape
+listShape size aux next short badAux badNext =
+    record { size = size; aux = aux; next = next; short = short; «bad_aux» = badAux; «bad_next» = badNext }
+
 abbrev pub verdefShape : ListShape
-verdefShape = record {
-  size = 20;
-  aux = verdef .aux .1;
-  next = verdef .next .1;
-  short = verdefShort;
-  «bad_aux» = badVerdefAux;
-  «bad_next» = badVerdefNext;
-}
+verdefShape = listShape 20 (verdef .aux .1) (verdef .next .1) verdefShort badVerdefAux badVerdefNext
 
 abbrev pub verneedShape : ListShape
-verneedShape = record {
-  size = 16;
-  aux = verneed .aux .1;
-  next = verneed .next .1;
-  short = verneedShort;
-  «bad_aux» = badVerneedAux;
-  «bad_next» = badVerneedNext;
-}
+verneedShape = listShape 16 (verneed .aux .1) (verneed .next .1) verneedShort badVerneedAux badVerneedNext
 
 abbrev pub verdauxShape : ChainShape
 verdauxShape = record { size = 8; next = verdaux .next .1; short = verdauxShort; «bad_next» = badVerdauxNext }
@@ -73,7 +65,7 @@ auxAt shape order s at =
     (fine (record { at = at; next = at + next })))
 
 abbrev pub listed : ListShape → Order → List ℕ → ℕ → Walk Record
-listed shape order s at = chain (recordAt shape order s) (λ r. r .next) (length s) at
+listed shape order s at = linked (recordAt shape order s) (λ r. r .next) (length s) at
 
 abbrev pub verdefs : Order → List ℕ → ℕ → Walk Record
 verdefs order s at = listed verdefShape order s at

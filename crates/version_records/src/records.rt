@@ -82,7 +82,7 @@ fn place_after(count: usize, at: usize, next: usize) -> usize
 }
 
 // The record of a list at a place. Refused in this order: it is short, as it is past the end; its
-// aux or its next lies past the end.
+// aux, then its next, lies past the end.
 fn record_at(shape: ListShape, order: Order, s: &[u8], at: usize) -> RecordStep
     requires { ⌜ (0 < shape .size) × (shape .aux ≤ shape .size) × (shape .next ≤ shape .size) ⌝ }
     ensures { λ r. ⌜ r ≡ recordStep (recordAt shape order (now (s .entry)) at) ⌝ }

@@ -1,5 +1,5 @@
--- Need not be believed: a lent part, where it starts in memory and its bytes. The contract of `trimmed` cites it, so that its answer is
--- a part of the lent name, and no copy.
+-- Need not be believed: a lent part, where it starts in memory and its bytes. The contract of `trimmed` cites it: what it
+-- answers is a part of the lent name, and no copy.
 --     Part, partOf    where a lent part starts, and its bytes
 --     trimmedPart     the trimmed front part of a lent name: it starts where the name does
 -- Assumes nothing.
