@@ -17,7 +17,7 @@ use lib.ListN.{replicate}
 use Rattle.endian.specs.declared.kinds.Class.the-variants.{Elf32, Elf64}
 use Rattle.endian.specs.declared.kinds.Order.{Order}
 use Rattle.endian.specs.declared.kinds.Order.the-variants.{Little, Big}
-use Rattle.endian.specs.First.{first}
+use Rattle.endian.specs.First.{first, readable}
 use Rattle.endian.specs.Refusals.{noteShort, badNoteDescriptor, badProperty}
 use Rattle.endian.specs.Word.{wordAt}
 use Rattle.gnu.specs.Find.{gnuFind}
@@ -33,10 +33,9 @@ use Rattle.property_reader.specs.declared.Property.{Property}
 use Rattle.property_reader.specs.declared.PropertyStep.the-variants.{Property as Step·Property, Refused}
 use Rattle.note.specs.declared.reader.Note.{Note}
 use Rattle.note.specs.Notes.{noteStep}
-use Rattle.property_reader.specs.Reader.{propertyStep, to}
-use Rattle.note_properties.specs.Properties.{start}
+use Rattle.property_reader.specs.Reader.{propertyStep, propertyReaderAt}
+use Rattle.note_properties.specs.Properties.{propertyStart}
 use Rattle.note.specs.Walk.{none, onto, ended, stopped, notesWithin, notesFrom, sectionNotes}
-use Rattle.strings.specs.Strings.{readable}
 use Rattle.symbol.specs.Table.{symbolAt, symbolIndex}
 use Rattle.version_match.specs.declared.Need.{Need}
 use Rattle.version.specs.Table.{storedAt, valid, entryAt, versymAt}
@@ -145,9 +144,12 @@ bytes order after = four order 0 ++ (four order 4 ++ zeros after)
 
 -- Property size 4: ELF64 with 12 bytes gives 6, 16 is read; ELF32 reads 12
 properties : (order : Order)
-    → (propertyStep (start Elf64 order) (bytes order 4) ≡ Refused badProperty (to (start Elf64 order) 12))
-    × (propertyStep (start Elf64 order) (bytes order 8) ≡ Step·Property property (to (start Elf64 order) 16))
-    × (propertyStep (start Elf32 order) (bytes order 4) ≡ Step·Property property (to (start Elf32 order) 12))
+    → (propertyStep (propertyStart Elf64 order) (bytes order 4)
+    ≡ Refused badProperty (propertyReaderAt (propertyStart Elf64 order) 12))
+    × (propertyStep (propertyStart Elf64 order) (bytes order 8)
+    ≡ Step·Property property (propertyReaderAt (propertyStart Elf64 order) 16))
+    × (propertyStep (propertyStart Elf32 order) (bytes order 4)
+    ≡ Step·Property property (propertyReaderAt (propertyStart Elf32 order) 12))
 unfolding zeros four bytes property wordAt propertyStep
 properties Little = (refl, refl, refl)
 properties Big = (refl, refl, refl)

@@ -1,4 +1,5 @@
 -- Laws of `wordAt`, over every width and both orders. Assumes nothing.
+--     joined       the word of m bytes with value a, followed by n bytes with value b
 --     word-byte    one byte
 --     word-join    a word of m + n bytes is its first m joined with its last n
 --     word-bytes   two bytes
@@ -14,9 +15,14 @@ use native.Mathlib.Omega.{arith}
 use native.Mathlib.Nat.{add-zero, add-suc, add-comm, add-assoc, mul-add, mul-zero, mul-assoc, mul-le-mul-left, pow-succ', pow-le-pow-right, lt-of-lt-of-le}
 use lib.Pow.{pow-add}
 use lib.ListN.{length, getD, List·getD-eq-default}
-use Rattle.endian.specs.Word.{wordAt, joined, Bytes}
+use Rattle.endian.specs.Bytes.{Bytes}
+use Rattle.endian.specs.Word.{wordAt}
 use Rattle.endian.specs.declared.kinds.Order.{Order}
 use Rattle.endian.specs.declared.kinds.Order.the-variants.{Little, Big}
+
+abbrev pub joined : Order → (m n a b : ℕ) → ℕ
+joined Little m n a b = a + 256 ^ m * b
+joined Big m n a b = 256 ^ n * a + b
 
 pub word-byte : (o : Order) (s : List ℕ) (at : ℕ) → wordAt o 1 s at ≡ getD s at 0
 unfolding wordAt

@@ -1,3 +1,5 @@
+pub mod Bytes
 pub mod First
+pub mod InOrder
 pub mod Refusals
 pub mod Word

@@ -2,7 +2,7 @@
 --     limit, anyLong    the most bytes that a lent part may have, and whether one of several has more
 --     refusal           the refusal of a number
 --     unlessRefused     the refusal, where there is one, or else the answer
---     refusals          all of them, each under its name
+--     tooLong, …        each of them, under its name
 -- Assumes nothing.
 use Prim.Native.Nat.{ℕ}
 use mathlib.Core.Bool.{Bool, true, false, cond}
@@ -177,45 +177,3 @@ noSymbol = refusal 37
 -- a class or a byte order that C passes and that is none; not document 01's
 abbrev pub unknownKind : Refusal
 unknownKind = refusal 39
-
-abbrev pub refusals : List Refusal
-refusals =
-    tooLong ∷
-    noteShort ∷
-    badNoteName ∷
-    badNoteDescriptor ∷
-    badNoteAlignment ∷
-    badProperty ∷
-    shortPropertyNumber ∷
-    verdefShort ∷
-    badVerdefAux ∷
-    badVerdefNext ∷
-    verdauxShort ∷
-    badVerdauxNext ∷
-    verneedShort ∷
-    badVerneedAux ∷
-    badVerneedNext ∷
-    vernauxShort ∷
-    badVernauxNext ∷
-    badVerdauxName ∷
-    badVerneedFile ∷
-    badVernauxName ∷
-    badVersionIndex ∷
-    storeTooSmall ∷
-    badSysvHeader ∷
-    badSysvBuckets ∷
-    badSysvChains ∷
-    badGnuHeader ∷
-    badGnuBloom ∷
-    badGnuBuckets ∷
-    noSegment ∷
-    badBloomShift ∷
-    badSegmentData ∷
-    badDynamicPlace ∷
-    badInterpreterPlace ∷
-    endlessInterpreter ∷
-    badNotePlace ∷
-    noString ∷
-    noSymbol ∷
-    unknownKind ∷
-    []

@@ -1,6 +1,6 @@
 // The size limit, and the refusals by their numbers: document 01's, and our own.
 ghost use mathlib.Core.Path.{_≡_};
-ghost use Rattle.endian.specs.Refusals.{refusals};
+ghost use Rattle.endian.specs.InOrder.{refusals};
 
 // The most bytes that a lent part may have.
 pub const LIMIT: usize = 16777216;

@@ -18,10 +18,9 @@ use borrow.Author.Tests.{ne-eqb, lt-ltb, le-ltb}
 use Rattle.endian.specs.declared.kinds.Class.{Class}
 use Rattle.endian.specs.declared.kinds.Order.{Order}
 use Rattle.endian.specs.declared.refusals.Refusal.{Refusal}
-use Rattle.endian.specs.First.{first}
+use Rattle.endian.specs.First.{first, isZero, readable}
 use Rattle.endian.specs.Refusals.{limit, noString}
 use Rattle.strings.specs.declared.StringAt.the-variants.{At, Refused}
-use Rattle.strings.specs.Strings.{isZero, readable}
 use Rattle.symbol_entry.specs.declared.Symbol.{Symbol}
 use Rattle.symbol.specs.declared.table.SymbolAt.the-variants.{At as Symbol·At, Refused as Symbol·Refused}
 use Rattle.symbol.specs.Table.{symbolAt, symbolIndex}

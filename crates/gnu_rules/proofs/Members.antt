@@ -13,7 +13,7 @@ use native.Mathlib.Omega.{arith}
 use lib.Dec.{eqb}
 use lib.ListN.{length}
 use borrow.Author.Tests.{eqb-true, eq-eqb}
-use Rattle.strings.specs.Strings.{same}
+use Rattle.endian.specs.First.{same}
 use Rattle.strings.proofs.Meaning.{same-refl, same-true}
 use Rattle.lookup.specs.Pick.{from}
 use Rattle.lookup.proofs.Picking.{All, all-from, from-all, all-select, select-all, firstOf-none, firstOf-hit, by-test, and-left, and-right}

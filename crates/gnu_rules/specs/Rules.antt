@@ -25,7 +25,7 @@ use Rattle.endian.specs.declared.kinds.Class.{Class}
 use Rattle.endian.specs.declared.kinds.Order.{Order}
 use Rattle.endian.specs.declared.refusals.Refusal.{Refusal}
 use Rattle.endian.specs.Refusals.{anyLong, tooLong, unlessRefused}
-use Rattle.strings.specs.Strings.{same}
+use Rattle.endian.specs.First.{same}
 use Rattle.name_hash.specs.Hash.{gnuHash}
 use Rattle.lookup.specs.Pick.{from, select, firstOf, largest, isNone}
 use Rattle.gnu_table.specs.Table.{Table, hashed, valueOf, odd, sameButLow, bloomFirst, bloomSecond}

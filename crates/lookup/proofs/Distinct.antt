@@ -12,7 +12,7 @@ use lib.ListN.{length}
 use Rattle.symbol.specs.Table.{symbolIndex}
 use Rattle.endian.specs.declared.kinds.Class.{Class}
 use Rattle.endian.specs.declared.kinds.Order.{Order}
-use Rattle.strings.specs.Strings.{same}
+use Rattle.endian.specs.First.{same}
 use Rattle.strings.proofs.Meaning.{false-true, same-true}
 use Rattle.symbol.specs.declared.table.SymbolIndex.{SymbolIndex}
 use Rattle.version_match.specs.declared.Need.{Need}

@@ -2,7 +2,7 @@
 --     gnuStep    one byte more in the GNU hash
 --     gnuHash    the GNU convention: from 5381, times 33 plus the byte, modulo 2 ^ 32
 --     sysvHash   the gABI's `elf_hash`, on words of 32 bits
---     hashOf     either of them as an answer: a name past the limit is refused
+--     nameHash   either of them as an answer: a name past the limit is refused
 use Prim.Native.Nat.{ℕ, _+_, _-_, _*_, _/_, _%_, _^_}
 use mathlib.Core.Bool.{cond}
 use mathlib.Core.List.{List, foldl}
@@ -29,5 +29,5 @@ sysvStep h b =
 unfoldable pub sysvHash : List ℕ → ℕ
 sysvHash name = foldl sysvStep 0 name
 
-abbrev pub hashOf : (List ℕ → ℕ) → List ℕ → NameHash
-hashOf hash name = cond (ltb limit (length name)) (Refused tooLong) (Hash (hash name))
+abbrev pub nameHash : (List ℕ → ℕ) → List ℕ → NameHash
+nameHash hash name = cond (ltb limit (length name)) (Refused tooLong) (Hash (hash name))

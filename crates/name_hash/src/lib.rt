@@ -3,7 +3,7 @@ use endian::refusals::LIMIT;
 use endian::refusals::Refusal;
 use endian::refusals::TOO_LONG;
 ghost use mathlib.Core.Path.{_≡_};
-ghost use Rattle.name_hash.specs.Hash.{gnuStep, gnuHash, sysvStep, sysvHash, hashOf};
+ghost use Rattle.name_hash.specs.Hash.{gnuStep, gnuHash, sysvStep, sysvHash, nameHash};
 
 // The hash of a name, or why it is not computed.
 pub enum NameHash {
@@ -20,7 +20,7 @@ pub fn gnu_step(h: u32, b: u8) -> u32
 
 // The GNU hash. Refused: a name that is too long.
 pub fn gnu_hash(name: &[u8]) -> NameHash
-    ensures { λ r. ⌜ r ≡ hashOf gnuHash (now (name .entry)) ⌝ }
+    ensures { λ r. ⌜ r ≡ nameHash gnuHash (now (name .entry)) ⌝ }
 {
     if LIMIT < name.len() {
         return NameHash::Refused(TOO_LONG);
@@ -42,7 +42,7 @@ fn sysv_step(h: u32, b: u8) -> u32
 
 // The SysV hash. Refused: a name that is too long.
 pub fn sysv_hash(name: &[u8]) -> NameHash
-    ensures { λ r. ⌜ r ≡ hashOf sysvHash (now (name .entry)) ⌝ }
+    ensures { λ r. ⌜ r ≡ nameHash sysvHash (now (name .entry)) ⌝ }
 {
     if LIMIT < name.len() {
         return NameHash::Refused(TOO_LONG);

@@ -18,8 +18,8 @@ use lib.Dec.{eqb, ltb, eqb·suc-zero, leb·suc-suc}
 use lib.ListN.{length, drop, getD, drop-of-length-le}
 use lib.Seq.{drop-cons}
 use borrow.Author.Tests.{ltb-true, ltb-false, lt-ltb, eq-eqb, ne-eqb, eqb-true, eqb-false}
-use Rattle.endian.specs.First.{first}
-use Rattle.name_match.specs.Reads.{readable, text, reads}
+use Rattle.endian.specs.First.{first, readable}
+use Rattle.name_match.specs.Reads.{text, reads}
 use Rattle.name_match.specs.Same.{Same, SameFrom}
 
 and-false : (t : Bool) → (t && false) ≡ false

@@ -1,7 +1,8 @@
--- What a comparison byte by byte has seen. Assumes nothing.
+-- Need not be believed: what a comparison byte by byte has seen. Inner contracts cite it.
 --     Same        a byte is the one that is wanted, and does not end the string
 --     SameFrom    all bytes of the name from one of them on and before another are such
 --     Stands      what a yes or no says of all of them
+-- Assumes nothing.
 use Prim.Native.Nat.{ℕ, _≤_, _<_, _+_}
 use mathlib.Core.Path.{_≡_}
 use mathlib.Core.Bool.{Bool, true, false}

@@ -12,15 +12,15 @@ use borrow.Author.Tests.{lt-ltb, le-ltb, le-leb, lt-leb}
 use lib.ListN.{length}
 use Rattle.endian.specs.Refusals.{limit, tooLong, noteShort, badNoteName, badNoteDescriptor}
 use Rattle.endian.specs.Word.{wordAt}
-use Rattle.note.specs.Notes.{noteStep, to, atEnd, header, namesz, descsz, nameEnd, descriptorFrom, descriptorEnd, nextFrom, noteOf}
+use Rattle.note.specs.Notes.{noteStep, to, namesz, descsz, nameEnd, descriptorFrom, descriptorEnd, noteNext, noteOf}
 use Rattle.note.specs.declared.reader.NoteReader.{NoteReader}
 use Rattle.note.specs.declared.reader.NoteStep.the-variants.{Note as Step·Note, End, Refused}
 
 module _ (r : NoteReader) (s : List ℕ) where
-  pub name-read : wordAt (r .order) 4 s (r .at) ≡ header r s namesz
+  pub name-read : wordAt (r .order) 4 s (r .at) ≡ namesz r s
   name-read = rw add-zero
 
-  pub step-long : limit < length s → noteStep r s ≡ Refused tooLong (atEnd r s)
+  pub step-long : limit < length s → noteStep r s ≡ Refused tooLong (to r (length s))
   unfolding noteStep
   step-long long = simp (lt-ltb _ _ long)
 
@@ -30,12 +30,12 @@ module _ (r : NoteReader) (s : List ℕ) where
     step-end past = simp (le-ltb _ _ fits, le-leb _ _ past)
 
     module _ (inside : r .at < length s) where
-      pub step-short : length s - r .at < 12 → noteStep r s ≡ Refused noteShort (atEnd r s)
+      pub step-short : length s - r .at < 12 → noteStep r s ≡ Refused noteShort (to r (length s))
       unfolding noteStep
       step-short few = simp (le-ltb _ _ fits, lt-leb _ _ inside, lt-ltb (length s) (r .at + 12) (omega arith))
 
-      module _ (whole : 12 ≤ length s - r .at) (n : ℕ) (named : n ≡ header r s namesz) where
-        pub step-name : length s - r .at < 12 + n → noteStep r s ≡ Refused badNoteName (atEnd r s)
+      module _ (whole : 12 ≤ length s - r .at) (n : ℕ) (named : n ≡ namesz r s) where
+        pub step-name : length s - r .at < 12 + n → noteStep r s ≡ Refused badNoteName (to r (length s))
         unfolding noteStep
         step-name few = simp (
           le-ltb _ _ fits,
@@ -45,8 +45,8 @@ module _ (r : NoteReader) (s : List ℕ) where
         )
 
         module _ (name : 12 + n ≤ length s - r .at) (d m : ℕ) (from : d ≡ descriptorFrom r s)
-            (sized : m ≡ header r s descsz) where
-          pub step-descriptor : length s - r .at < d + m → noteStep r s ≡ Refused badNoteDescriptor (atEnd r s)
+            (sized : m ≡ descsz r s) where
+          pub step-descriptor : length s - r .at < d + m → noteStep r s ≡ Refused badNoteDescriptor (to r (length s))
           unfolding noteStep
           step-descriptor few = simp (
             le-ltb _ _ fits,
@@ -56,7 +56,7 @@ module _ (r : NoteReader) (s : List ℕ) where
             lt-ltb (length s) (r .at + descriptorEnd r s) (omega arith),
           )
 
-          pub step-note : d + m ≤ length s - r .at → noteStep r s ≡ Step·Note (noteOf r s) (to r (r .at + nextFrom r s))
+          pub step-note : d + m ≤ length s - r .at → noteStep r s ≡ Step·Note (noteOf r s) (to r (r .at + noteNext r s))
           unfolding noteStep
           step-note enough = simp (
             le-ltb _ _ fits,

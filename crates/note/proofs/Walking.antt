@@ -18,7 +18,7 @@ use borrow.Author.Tests.{leb-false, ltb-true}
 use Rattle.endian.specs.declared.kinds.Order.{Order}
 use Rattle.endian.specs.declared.refusals.Refusal.{Refusal}
 use Rattle.endian.specs.Refusals.{limit, tooLong, noteShort, badNoteName, badNoteDescriptor}
-use Rattle.note.specs.Notes.{readerFor, noteStep, to, atEnd, nameEnd, descriptorEnd, nextFrom, noteOf}
+use Rattle.note.specs.Notes.{readerFor, noteStep, to, nameEnd, descriptorEnd, noteNext, noteOf}
 use Rattle.note.specs.Walk.{NoteList, stopped, none, onto, afterStep, notesWithin, notesFrom, notesOf, sectionNotes, Stepping, ends, stops, goes}
 use Rattle.note.specs.declared.reader.NoteReader.{NoteReader}
 use Rattle.note.specs.declared.reader.ReaderFor.{ReaderFor}
@@ -32,7 +32,7 @@ use Rattle.note.proofs.Steps.{step-long, step-end}
 abbrev pub Seen : NoteReader → List ℕ → NoteStep → Type 0
 Seen r s (Step·Note note next) = (r .at < length s) × (r .at + 12 ≤ next .at)
 Seen r s (End next) = next ≡ r
-Seen r s (Refused refusal next) = next ≡ atEnd r s
+Seen r s (Refused refusal next) = next ≡ to r (length s)
 
 module _ (s : List ℕ) where
   seen : (r : NoteReader) → Seen r s (noteStep r s)
@@ -43,12 +43,12 @@ module _ (s : List ℕ) where
     where
       by : (long past : Bool) → leb (length s) (r .at) ≡ past → (short name descriptor : Bool)
           → Seen r s
-          (cond long (Refused tooLong (atEnd r s))
+          (cond long (Refused tooLong (to r (length s)))
           (cond past (End r)
-          (cond short (Refused noteShort (atEnd r s))
-          (cond name (Refused badNoteName (atEnd r s))
-          (cond descriptor (Refused badNoteDescriptor (atEnd r s))
-          (Step·Note (noteOf r s) (to r (r .at + nextFrom r s))))))))
+          (cond short (Refused noteShort (to r (length s)))
+          (cond name (Refused badNoteName (to r (length s)))
+          (cond descriptor (Refused badNoteDescriptor (to r (length s)))
+          (Step·Note (noteOf r s) (to r (r .at + noteNext r s))))))))
       by true past e short name descriptor = refl
       by false true e short name descriptor = refl
       by false false e true name descriptor = refl

@@ -1,4 +1,5 @@
--- All the notes of a section, from the step's definition (01, module 4): the notes in order, and how it ends.
+-- Need not be believed for a promise: all the notes of a section, in order, and how they end (01, module 4). It is made of
+-- steps; document 01's cases are stated by it.
 --     Ending, NoteList       at the end or with a refusal, and the notes before that
 --     none, onto             no notes, and one more in front
 --     afterStep              what a step adds to the list of the reader after it

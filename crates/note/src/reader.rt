@@ -90,8 +90,10 @@ impl NoteReader {
         NoteReader { order, align, at }
     }
 
-    // One note further. Refused in this order: bytes that are too long; fewer than a header's; a
-    // name, then a descriptor, that reaches past them. A refused reader stands at their end.
+    // One note further, from any place. Refused first: bytes that are too long. Then a reader at or
+    // past their end is at its end, and stays as it is. Then refused: fewer bytes than a header's; a
+    // name, then a descriptor, that reaches past them. A refused reader stands at the end of these
+    // bytes, where the next step over them finds the end unless they are too long.
     pub fn step(self, bytes: &[u8]) -> NoteStep
         ensures { λ r. ⌜ r ≡ noteStep self (now (bytes .entry)) ⌝ }
     {

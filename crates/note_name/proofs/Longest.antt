@@ -1,9 +1,10 @@
 -- The trimmed name is the longest front part that does not end in zero.
+--     Unpadded           a front part of so many bytes does not end in zero
 --     zeros-after        from its end on all is 0
 --     trimmed-nonzero    its last byte is not
 --     trimmed-longest    it does not end in zero, and is no shorter than any front part that does not
 -- Assumes nothing.
-use Prim.Native.Nat.{ℕ, zero, suc, _-_, _≤_}
+use Prim.Native.Nat.{ℕ, zero, suc, _-_, _<_, _≤_}
 use mathlib.Core.Path.{_≡_, refl}
 use mathlib.Core.Bool.{Bool, true, false, cond}
 use mathlib.Core.List.{List, [], _∷_}
@@ -11,7 +12,10 @@ use native.Mathlib.Omega.{arith}
 use lib.Dec.{eqb, leb}
 use lib.ListN.{length, getD, List·getD-eq-default}
 use borrow.Author.Tests.{eqb-true, eqb-false, leb-true, leb-false}
-use Rattle.note_name.specs.Trim.{trimmedLength, Unpadded}
+use Rattle.note_name.specs.Trim.{trimmedLength}
+
+abbrev pub Unpadded : List ℕ → ℕ → Type 0
+Unpadded name n = (n ≤ length name) × (0 < n → getD name (n - 1) 0 ≡ 0 → ⊥)
 
 trimmed-le : (s : List ℕ) → trimmedLength s ≤ length s
 unfolding trimmedLength

@@ -2,7 +2,7 @@
 --     trim-zero    a last element that is 0 does not count
 --     trim-last    a last element that is not 0 does, and all before it
 --     trim-less, trim-all     the same of a loop that has n elements left
-use Prim.Native.Nat.{ℕ, suc, _+_, _-_, _<_, _≤_}
+use Prim.Native.Nat.{ℕ, suc, _-_, _<_, _≤_}
 use mathlib.Core.Path.{_≡_, refl, _∙_, ap}
 use mathlib.Core.List.{List, [], _∷_, _++_}
 use native.Mathlib.Omega.{arith}

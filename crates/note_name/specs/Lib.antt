@@ -1,1 +1,2 @@
+pub mod LentPart
 pub mod Trim

@@ -10,7 +10,7 @@ use native.Mathlib.Omega.{arith}
 use lib.Dec.{eqb}
 use lib.ListN.{length, getD}
 use borrow.Author.Tests.{eq-eqb}
-use Rattle.strings.specs.Strings.{same}
+use Rattle.endian.specs.First.{same}
 use Rattle.strings.proofs.Meaning.{same-true}
 use Rattle.note_properties.specs.Properties.{gnu}
 

@@ -1,6 +1,6 @@
 -- Whether a note holds GNU properties (01, module 4).
---     gnu, isGnu              the bytes of `GNU`, and whether the trimmed name is that
---     start, gnuProperties    the reader before the first property, and the same if the note is of this kind
+--     gnu, isGnu                      the bytes of `GNU`, and whether the trimmed name is that
+--     propertyStart, gnuProperties    the reader before the first property, and the same if the note is of this kind
 -- Assumes nothing.
 use Prim.Native.Nat.{ℕ}
 use mathlib.Core.Bool.{Bool, cond, _&&_}
@@ -9,14 +9,14 @@ use lib.Dec.{eqb}
 use Rattle.endian.specs.declared.kinds.Class.{Class}
 use Rattle.endian.specs.declared.kinds.Order.{Order}
 use Rattle.endian.specs.Refusals.{anyLong, tooLong}
-use Rattle.strings.specs.Strings.{same}
+use Rattle.endian.specs.First.{same}
 use Rattle.note_name.specs.Trim.{trimmedOf}
 use Rattle.property_reader.specs.declared.PropertyReader.{PropertyReader}
 use Rattle.note_properties.specs.declared.GnuProperties.{GnuProperties}
 use Rattle.note_properties.specs.declared.GnuProperties.the-variants.{Reader, NotThisKind, Refused as Properties·Refused}
 
-abbrev pub start : Class → Order → PropertyReader
-start class order = record { class = class; order = order; at = 0 }
+abbrev pub propertyStart : Class → Order → PropertyReader
+propertyStart class order = record { class = class; order = order; at = 0 }
 
 abbrev pub gnu : List ℕ
 gnu = 71 ∷ 78 ∷ 85 ∷ []
@@ -28,4 +28,4 @@ isGnu name = same (trimmedOf name) gnu
 abbrev pub gnuProperties : Class → Order → (kind : ℕ) → (name descriptor : List ℕ) → GnuProperties
 gnuProperties class order kind name descriptor =
     cond (anyLong (name ∷ descriptor ∷ [])) (Properties·Refused tooLong)
-    (cond (eqb kind 5 && isGnu name) (Reader (start class order)) NotThisKind)
+    (cond (eqb kind 5 && isGnu name) (Reader (propertyStart class order)) NotThisKind)

@@ -36,7 +36,8 @@ fn is_gnu(name: &[u8]) -> bool
 }
 
 // The reader before the first property of a note, by the note's type, name and descriptor. Refused
-// first: a name or a descriptor that is too long.
+// first: a name or a descriptor that is too long. Then another type, or another trimmed name, is not
+// this kind.
 pub fn gnu_properties(
     class: Class,
     order: Order,

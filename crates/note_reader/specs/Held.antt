@@ -1,6 +1,5 @@
 -- The end form of the note reader: the lent bytes and the reader in one struct (01, "Where each form goes").
 --     notesAt    the bytes with a reader
---     moved      a step's answer, and the reader that stands after it
 --     stepped    a step of the notes: its answer, and the same bytes with the reader that stands after it
 -- Assumes nothing.
 use mathlib.Core.List.{List}
@@ -8,16 +7,11 @@ use Prim.Native.Nat.{ℕ}
 use denote.Ref.{RefT, now}
 use Rattle.note.specs.Notes.{noteStep, readerAfter}
 use Rattle.note.specs.declared.reader.NoteReader.{NoteReader}
-use Rattle.note.specs.declared.reader.NoteStep.{NoteStep}
-use Rattle.note_reader.specs.declared.Moved.{Moved}
 use Rattle.note_reader.specs.declared.Notes.{Notes}
 use Rattle.note_reader.specs.declared.Stepped.{Stepped}
 
 abbrev pub notesAt : RefT (List ℕ) → NoteReader → Notes
 notesAt bytes reader = record { bytes = bytes; reader = reader }
-
-abbrev pub moved : NoteStep → Moved
-moved answer = record { answer = answer; next = readerAfter answer }
 
 abbrev pub stepped : Notes → Stepped
 stepped notes = record {

@@ -4,7 +4,8 @@ use note::reader::NoteReader;
 use note::reader::NoteStep;
 ghost use mathlib.Core.Path.{_≡_};
 ghost use Rattle.note.specs.Notes.{noteStep};
-ghost use Rattle.note_reader.specs.Held.{notesAt, moved, stepped};
+ghost use Rattle.note_reader.specs.Held.{notesAt, stepped};
+ghost use Rattle.note_reader.specs.Moved.{moved};
 
 // The lent bytes, and the reader of what is left of them.
 pub struct Notes<'a> {

@@ -12,17 +12,17 @@ use native.Mathlib.Nat.{add-zero}
 use borrow.Author.Tests.{lt-ltb, le-ltb, le-leb, lt-leb}
 use lib.ListN.{length}
 use Rattle.endian.specs.Refusals.{limit, tooLong, badProperty}
-use Rattle.endian.specs.Word.{wordAt}
-use Rattle.property_reader.specs.Reader.{propertyStep, to, atEnd, header, kind, size, nextFrom, propertyOf, propertyAlign}
+use Rattle.endian.specs.Word.{wordAt, fieldAt}
+use Rattle.property_reader.specs.Reader.{propertyStep, propertyReaderAt, propertySize, propertyNext, propertyOf, propertyAlign}
 use Rattle.property_reader.specs.declared.PropertyReader.{PropertyReader}
 use Rattle.property_reader.specs.declared.PropertyStep.the-variants.{Property as Step·Property, End, Refused}
 use Rattle.note.proofs.Aligned.{aligned-le}
 
 module _ (r : PropertyReader) (s : List ℕ) where
-  pub kind-read : wordAt (r .order) 4 s (r .at) ≡ header r s kind
+  pub kind-read : wordAt (r .order) 4 s (r .at) ≡ fieldAt (r .order) s (r .at) 4 0
   kind-read = rw add-zero
 
-  pub step-long : limit < length s → propertyStep r s ≡ Refused tooLong (atEnd r s)
+  pub step-long : limit < length s → propertyStep r s ≡ Refused tooLong (propertyReaderAt r (length s))
   unfolding propertyStep
   step-long long = simp (lt-ltb _ _ long)
 
@@ -32,17 +32,17 @@ module _ (r : PropertyReader) (s : List ℕ) where
     step-end past = simp (le-ltb _ _ fits, le-leb _ _ past)
 
     module _ (inside : r .at < length s) where
-      pub step-refused : length s - r .at < nextFrom r s → propertyStep r s ≡ Refused badProperty (atEnd r s)
+      pub step-refused : length s - r .at < propertyNext r s → propertyStep r s ≡ Refused badProperty (propertyReaderAt r (length s))
       unfolding propertyStep
-      step-refused few = simp (le-ltb _ _ fits, lt-leb _ _ inside, lt-ltb (length s) (r .at + nextFrom r s) (omega arith))
+      step-refused few = simp (le-ltb _ _ fits, lt-leb _ _ inside, lt-ltb (length s) (r .at + propertyNext r s) (omega arith))
 
-      pub step-short : length s - r .at < 8 → propertyStep r s ≡ Refused badProperty (atEnd r s)
-      step-short few = step-refused (omega (arith, aligned-le (propertyAlign (r .class)) (8 + header r s size)))
+      pub step-short : length s - r .at < 8 → propertyStep r s ≡ Refused badProperty (propertyReaderAt r (length s))
+      step-short few = step-refused (omega (arith, aligned-le (propertyAlign (r .class)) (8 + propertySize r s)))
 
-      pub step-property : nextFrom r s ≤ length s - r .at
-          → propertyStep r s ≡ Step·Property (propertyOf r s) (to r (r .at + nextFrom r s))
+      pub step-property : propertyNext r s ≤ length s - r .at
+          → propertyStep r s ≡ Step·Property (propertyOf r s) (propertyReaderAt r (r .at + propertyNext r s))
       unfolding propertyStep
-      step-property whole = simp (le-ltb _ _ fits, lt-leb _ _ inside, le-ltb (length s) (r .at + nextFrom r s) (omega arith))
+      step-property whole = simp (le-ltb _ _ fits, lt-leb _ _ inside, le-ltb (length s) (r .at + propertyNext r s) (omega arith))
 
-pub refused-stays : (r : PropertyReader) (s : List ℕ) → length s ≤ limit → propertyStep (atEnd r s) s ≡ End (atEnd r s)
-refused-stays r s fits = step-end (atEnd r s) s fits (omega arith)
+pub refused-stays : (r : PropertyReader) (s : List ℕ) → length s ≤ limit → propertyStep (propertyReaderAt r (length s)) s ≡ End (propertyReaderAt r (length s))
+refused-stays r s fits = step-end (propertyReaderAt r (length s)) s fits (omega arith)

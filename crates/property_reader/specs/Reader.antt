@@ -1,11 +1,11 @@
 -- GNU properties (01, module 4): type 4, size 4, data, padding.
---     propertyAlign                         8 in ELF64, 4 in ELF32
---     layout, header                        its first two fields
---     nextFrom                              where the next property starts, from this one's own start
---     propertyOf                            the property at a reader's place
---     atEnd                                 a refused reader: its place is the end of the bytes
---     propertyStep, propertyReaderAfter     what a step finds, and the reader that stands after it
---     propertyNumber                        a property's data as a number
+--     propertyAlign       8 in ELF64, 4 in ELF32
+--     propertyReaderAt    the same reader at another place
+--     propertySize        its second field: the bytes of its data
+--     propertyNext        where the next property starts, from this one's own start
+--     propertyOf          the property at a reader's place; its type is the first field
+--     propertyStep        what a step finds, with the reader that stands after it
+--     propertyNumber      a property's data as a number
 -- Assumes nothing.
 use Prim.Native.Nat.{ℕ, _+_}
 use mathlib.Core.Bool.{cond}
@@ -16,7 +16,7 @@ use Rattle.endian.specs.declared.kinds.Class.{Class}
 use Rattle.endian.specs.declared.kinds.Class.the-variants.{Elf32, Elf64}
 use Rattle.endian.specs.declared.kinds.Order.{Order}
 use Rattle.endian.specs.Refusals.{limit, tooLong, badProperty, shortPropertyNumber}
-use Rattle.endian.specs.Word.{wordAt, Field, fieldAt}
+use Rattle.endian.specs.Word.{wordAt, fieldAt}
 use Rattle.note.specs.Notes.{aligned}
 use Rattle.note.specs.declared.reader.Align.{Align}
 use Rattle.note.specs.declared.reader.Align.the-variants.{Four, Eight}
@@ -31,45 +31,27 @@ abbrev pub propertyAlign : Class → Align
 propertyAlign Elf32 = Four
 propertyAlign Elf64 = Eight
 
--- the same reader at another place
-abbrev pub to : PropertyReader → ℕ → PropertyReader
-to reader place = record { class = reader .class; order = reader .order; at = place }
+abbrev pub propertyReaderAt : PropertyReader → ℕ → PropertyReader
+propertyReaderAt reader place = record { class = reader .class; order = reader .order; at = place }
 
-pub data PropertyField : Type 0 where
-  kind size : PropertyField
+abbrev pub propertySize : PropertyReader → List ℕ → ℕ
+propertySize reader s = fieldAt (reader .order) s (reader .at) 4 4
 
-abbrev pub layout : PropertyField → Field
-layout kind = record { at = 0; width = 4 }
-layout size = record { at = 4; width = 4 }
-
-abbrev pub header : PropertyReader → List ℕ → PropertyField → ℕ
-header reader s field = fieldAt (reader .order) s (reader .at) (layout field)
-
-abbrev pub nextFrom : PropertyReader → List ℕ → ℕ
-nextFrom reader s = aligned (propertyAlign (reader .class)) (8 + header reader s size)
+abbrev pub propertyNext : PropertyReader → List ℕ → ℕ
+propertyNext reader s = aligned (propertyAlign (reader .class)) (8 + propertySize reader s)
 
 abbrev pub propertyOf : PropertyReader → List ℕ → Property
-propertyOf reader s = record {
-  kind = header reader s kind;
-  start = reader .at + 8;
-  size = header reader s size;
-}
+propertyOf reader s =
+    record { kind = fieldAt (reader .order) s (reader .at) 4 0; start = reader .at + 8; size = propertySize reader s }
 
-abbrev pub atEnd : PropertyReader → List ℕ → PropertyReader
-atEnd reader s = to reader (length s)
-
--- the padding must be present: a property is whole if the bytes reach to where the next one starts
+-- the padding must be present: a property is whole if the bytes reach to where the next one starts; a refused reader
+-- stands at the end of the bytes
 unfoldable pub propertyStep : PropertyReader → List ℕ → PropertyStep
 propertyStep reader s =
-    cond (ltb limit (length s)) (Refused tooLong (atEnd reader s))
+    cond (ltb limit (length s)) (Refused tooLong (propertyReaderAt reader (length s)))
     (cond (leb (length s) (reader .at)) (End reader)
-    (cond (ltb (length s) (reader .at + nextFrom reader s)) (Refused badProperty (atEnd reader s))
-    (Step·Property (propertyOf reader s) (to reader (reader .at + nextFrom reader s)))))
-
-abbrev pub propertyReaderAfter : PropertyStep → PropertyReader
-propertyReaderAfter (Step·Property property next) = next
-propertyReaderAfter (End next) = next
-propertyReaderAfter (Refused refusal next) = next
+    (cond (ltb (length s) (reader .at + propertyNext reader s)) (Refused badProperty (propertyReaderAt reader (length s)))
+    (Step·Property (propertyOf reader s) (propertyReaderAt reader (reader .at + propertyNext reader s)))))
 
 -- its first 4 bytes in the file's order
 abbrev pub propertyNumber : Order → List ℕ → PropertyNumber

@@ -10,7 +10,8 @@ use word::u32_at;
 ghost use mathlib.Core.Path.{_≡_};
 ghost use Prim.Native.Nat.{_+_, _<_};
 ghost use Rattle.note.specs.Notes.{aligned};
-ghost use Rattle.property_reader.specs.Reader.{propertyAlign, to, propertyStep, propertyReaderAfter, propertyNumber};
+ghost use Rattle.property_reader.specs.Reader.{propertyAlign, propertyStep, propertyNumber, propertyReaderAt};
+ghost use Rattle.property_reader.specs.After.{propertyReaderAfter};
 
 // The bytes of a property's type and size.
 pub const PROPERTY_HEADER: usize = 8;
@@ -55,15 +56,17 @@ fn padded(class: Class, n: usize) -> usize
 impl PropertyReader {
     // The same reader at another place.
     fn moved(self, at: usize) -> PropertyReader
-        ensures { λ r. ⌜ r ≡ to self at ⌝ }
+        ensures { λ r. ⌜ r ≡ propertyReaderAt self at ⌝ }
     {
         let class = self.class;
         let order = self.order;
         PropertyReader { class, order, at }
     }
 
-    // One property further. Refused in this order: bytes that are too long; a property that is not
-    // whole, its padding included. A refused reader stands at their end.
+    // One property further, from any place. Refused first: bytes that are too long. Then a reader at
+    // or past their end is at its end, and stays as it is. Then refused: a property that is not whole,
+    // its padding included. A refused reader stands at the end of these bytes, where the next step
+    // over them finds the end unless they are too long.
     pub fn step(self, bytes: &[u8]) -> PropertyStep
         ensures { λ r. ⌜ r ≡ propertyStep self (now (bytes .entry)) ⌝ }
     {

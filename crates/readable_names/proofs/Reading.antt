@@ -11,10 +11,10 @@ use lib.ListN.{length, drop}
 use borrow.Author.Tests.{le-ltb}
 use Rattle.endian.specs.declared.kinds.Class.{Class}
 use Rattle.endian.specs.declared.kinds.Order.{Order}
-use Rattle.endian.specs.First.{first}
+use Rattle.endian.specs.First.{first, isZero, readable}
 use Rattle.endian.specs.Refusals.{limit, noString}
 use Rattle.strings.specs.declared.StringAt.the-variants.{At, Refused}
-use Rattle.strings.specs.Strings.{isZero, readable, stringAt}
+use Rattle.strings.specs.Strings.{stringAt}
 use Rattle.strings.proofs.Readable.{readable-below}
 use Rattle.symbol.specs.declared.table.SymbolAt.{SymbolAt}
 use Rattle.symbol.specs.declared.table.SymbolAt.the-variants.{At as Symbol·At, Refused as Symbol·Refused}

@@ -11,7 +11,7 @@ use lib.ListN.{length}
 use Rattle.endian.specs.declared.kinds.Class.{Class}
 use Rattle.endian.specs.declared.kinds.Order.{Order}
 use Rattle.endian.specs.Refusals.{limit}
-use Rattle.strings.specs.Strings.{afterZero}
+use Rattle.strings.specs.AfterZero.{afterZero}
 use Rattle.symbol.specs.declared.table.SymbolAt.{SymbolAt}
 use Rattle.symbol.specs.declared.table.SymbolAt.the-variants.{At, Refused}
 use Rattle.lookup.specs.Pick.{isNone}

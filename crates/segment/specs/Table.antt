@@ -13,50 +13,26 @@ use Rattle.endian.specs.declared.kinds.Class.{Class}
 use Rattle.endian.specs.declared.kinds.Class.the-variants.{Elf32, Elf64}
 use Rattle.endian.specs.declared.kinds.Order.{Order}
 use Rattle.endian.specs.Refusals.{limit, tooLong, noSegment}
-use Rattle.endian.specs.Word.{Field, fieldAt}
+use Rattle.endian.specs.Word.{fieldAt}
 use Rattle.segment_entry.specs.declared.Segment.{Segment}
 use Rattle.segment.specs.declared.table.SegmentCount.{SegmentCount}
 use Rattle.segment.specs.declared.table.SegmentCount.the-variants.{Segments, Refused as Count·Refused}
 use Rattle.segment.specs.declared.table.SegmentAt.{SegmentAt}
 use Rattle.segment.specs.declared.table.SegmentAt.the-variants.{At, Refused}
 
-pub data SegmentField : Type 0 where
-  kind flags offset vaddr paddr filesz memsz align : SegmentField
-
--- Segment32 and Segment64 of document 01
-abbrev pub layout : Class → SegmentField → Field
-layout Elf32 kind = record { at = 0; width = 4 }
-layout Elf32 offset = record { at = 4; width = 4 }
-layout Elf32 vaddr = record { at = 8; width = 4 }
-layout Elf32 paddr = record { at = 12; width = 4 }
-layout Elf32 filesz = record { at = 16; width = 4 }
-layout Elf32 memsz = record { at = 20; width = 4 }
-layout Elf32 flags = record { at = 24; width = 4 }
-layout Elf32 align = record { at = 28; width = 4 }
-layout Elf64 kind = record { at = 0; width = 4 }
-layout Elf64 flags = record { at = 4; width = 4 }
-layout Elf64 offset = record { at = 8; width = 8 }
-layout Elf64 vaddr = record { at = 16; width = 8 }
-layout Elf64 paddr = record { at = 24; width = 8 }
-layout Elf64 filesz = record { at = 32; width = 8 }
-layout Elf64 memsz = record { at = 40; width = 8 }
-layout Elf64 align = record { at = 48; width = 8 }
-
 abbrev pub segmentSize : Class → ℕ
 segmentSize Elf32 = 32
 segmentSize Elf64 = 56
 
+-- Segment32 and Segment64 of document 01: where each field stands, 4 bytes wide, or 8
 abbrev pub segmentOf : Class → Order → List ℕ → (base : ℕ) → Segment
-segmentOf class order s base = record {
-  kind = fieldAt order s base (layout class kind);
-  flags = fieldAt order s base (layout class flags);
-  offset = fieldAt order s base (layout class offset);
-  vaddr = fieldAt order s base (layout class vaddr);
-  paddr = fieldAt order s base (layout class paddr);
-  filesz = fieldAt order s base (layout class filesz);
-  memsz = fieldAt order s base (layout class memsz);
-  align = fieldAt order s base (layout class align);
-}
+segmentOf Elf32 order s base =
+    let f = fieldAt order s base 4 in
+    record { kind = f 0; offset = f 4; vaddr = f 8; paddr = f 12; filesz = f 16; memsz = f 20; flags = f 24; align = f 28 }
+segmentOf Elf64 order s base =
+    let f = fieldAt order s base 4 in
+    let g = fieldAt order s base 8 in
+    record { kind = f 0; flags = f 4; offset = g 8; vaddr = g 16; paddr = g 24; filesz = g 32; memsz = g 40; align = g 48 }
 
 abbrev pub segmentCount : Class → List ℕ → SegmentCount
 segmentCount class s = cond (ltb limit (length s)) (Count·Refused tooLong) (Segments (length s / segmentSize class))

@@ -13,7 +13,7 @@ use Rattle.endian.specs.declared.kinds.Class.{Class}
 use Rattle.endian.specs.declared.kinds.Class.the-variants.{Elf32, Elf64}
 use Rattle.endian.specs.declared.kinds.Order.{Order}
 use Rattle.endian.specs.Refusals.{limit, tooLong, badDynamicPlace}
-use Rattle.endian.specs.Word.{Field, fieldAt}
+use Rattle.endian.specs.Word.{fieldAt}
 use Rattle.segment_data.specs.Part.{isInFile}
 use Rattle.segment_entry.specs.declared.Segment.{Segment}
 use Rattle.segment_dynamic.specs.declared.dynamic.SegmentDynamic.{SegmentDynamic}
@@ -34,21 +34,10 @@ segmentDynamic class file segment =
     (cond (isInFile file segment) (At (segment .offset) (segment .filesz) (segment .filesz / dynamicSize class))
     (Refused badDynamicPlace)))
 
-pub data DynamicField : Type 0 where
-  tag value : DynamicField
-
--- Dyn32 and Dyn64 of document 01
-abbrev pub layout : Class → DynamicField → Field
-layout Elf32 tag = record { at = 0; width = 4 }
-layout Elf32 value = record { at = 4; width = 4 }
-layout Elf64 tag = record { at = 0; width = 8 }
-layout Elf64 value = record { at = 8; width = 8 }
-
+-- Dyn32 and Dyn64 of document 01: the width of each field, and where it stands
 abbrev pub dynamicOf : Class → Order → List ℕ → (base : ℕ) → DynamicEntry
-dynamicOf class order s base = record {
-  tag = fieldAt order s base (layout class tag);
-  value = fieldAt order s base (layout class value);
-}
+dynamicOf Elf32 order s base = record { tag = fieldAt order s base 4 0; value = fieldAt order s base 4 4 }
+dynamicOf Elf64 order s base = record { tag = fieldAt order s base 8 0; value = fieldAt order s base 8 8 }
 
 -- a number past the whole entries has none
 unfoldable pub dynamicEntry : Class → Order → List ℕ → (number : ℕ) → DynamicEntryAt

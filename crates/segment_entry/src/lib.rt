@@ -1,6 +1,7 @@
 // One segment, and what its fields say.
 ghost use mathlib.Core.Path.{_≡_};
-ghost use Rattle.segment_entry.specs.Entry.{fileRange, permissionsOf, kindOf};
+ghost use Rattle.segment_entry.specs.Entry.{permissionsOf, kindOf};
+ghost use Rattle.segment_entry.specs.FileRange.{fileRange};
 
 // The gABI's segment types.
 pub const PT_LOAD: u32 = 1;

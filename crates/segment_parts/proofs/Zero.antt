@@ -10,12 +10,12 @@ use mathlib.Core.List.{List}
 use native.Mathlib.Omega.{arith}
 use lib.ListN.{length, take, drop, length-take, length-drop}
 use borrow.Author.Tests.{le-ltb}
-use Rattle.endian.specs.First.{first}
+use Rattle.endian.specs.First.{first, isZero, readable}
 use Rattle.endian.specs.Refusals.{limit, noString, endlessInterpreter}
-use Rattle.strings.specs.Strings.{isZero, readable, stringAt}
+use Rattle.strings.specs.Strings.{stringAt}
 use Rattle.strings.specs.declared.StringAt.{StringAt}
 use Rattle.strings.specs.declared.StringAt.the-variants.{At as String·At, Refused as String·Refused}
-use Rattle.segment_parts.specs.Interpreter.{bytesOf, upToZero}
+use Rattle.segment_parts.specs.Interpreter.{upToZero, segmentBytes}
 use Rattle.segment_entry.specs.declared.Segment.{Segment}
 use Rattle.segment_parts.specs.declared.interpreter.SegmentInterpreter.{SegmentInterpreter}
 use Rattle.segment_parts.specs.declared.interpreter.SegmentInterpreter.the-variants.{At, Refused}
@@ -35,14 +35,14 @@ upToZero-string start bytes fits = rw (le-ltb limit (length bytes) fits) (by (re
     by false = refl
 
 module _ (file : List ℕ) (segment : Segment) (fits : length file ≤ limit) where
-  bytes-fit : length (bytesOf file segment) ≤ limit
+  bytes-fit : length (segmentBytes file segment) ≤ limit
   bytes-fit =
       let rest = drop (segment .offset) file in
       omega (arith, length-take (segment .filesz) rest, length-drop (segment .offset) file)
 
   pub interpreter-string : fromString (segment .offset)
       (stringAt (take ((segment .offset + segment .filesz) - segment .offset) (drop (segment .offset) file)) 0)
-      ≡ upToZero (segment .offset) (bytesOf file segment)
+      ≡ upToZero (segment .offset) (segmentBytes file segment)
   interpreter-string =
       let size : (segment .offset + segment .filesz) - segment .offset ≡ segment .filesz = omega arith in
-      rw size (upToZero-string (segment .offset) (bytesOf file segment) bytes-fit)
+      rw size (upToZero-string (segment .offset) (segmentBytes file segment) bytes-fit)

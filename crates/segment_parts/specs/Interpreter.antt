@@ -1,5 +1,5 @@
 -- The interpreter that a segment names (01, module 7): the segment's bytes up to their first zero.
---     bytesOf               the segment's bytes
+--     segmentBytes          the segment's bytes
 --     upToZero              the front part of some bytes of the file, up to their first zero
 --     segmentInterpreter    the interpreter's name, as a place in the file
 -- Assumes nothing.
@@ -8,16 +8,15 @@ use mathlib.Core.Bool.{cond, not}
 use mathlib.Core.List.{List}
 use lib.Dec.{eqb, ltb}
 use lib.ListN.{length, take, drop}
-use Rattle.endian.specs.First.{first}
+use Rattle.endian.specs.First.{first, isZero, readable}
 use Rattle.endian.specs.Refusals.{limit, tooLong, badInterpreterPlace, endlessInterpreter}
-use Rattle.strings.specs.Strings.{isZero, readable}
 use Rattle.segment_data.specs.Part.{isInFile}
 use Rattle.segment_entry.specs.declared.Segment.{Segment}
 use Rattle.segment_parts.specs.declared.interpreter.SegmentInterpreter.{SegmentInterpreter}
 use Rattle.segment_parts.specs.declared.interpreter.SegmentInterpreter.the-variants.{At, NotThisKind, Refused}
 
-abbrev pub bytesOf : List ℕ → Segment → List ℕ
-bytesOf file segment = take (segment .filesz) (drop (segment .offset) file)
+abbrev pub segmentBytes : List ℕ → Segment → List ℕ
+segmentBytes file segment = take (segment .filesz) (drop (segment .offset) file)
 
 abbrev pub upToZero : (start : ℕ) → List ℕ → SegmentInterpreter
 upToZero start bytes = cond (readable bytes) (At start (first isZero bytes)) (Refused endlessInterpreter)
@@ -27,5 +26,5 @@ abbrev pub segmentInterpreter : List ℕ → Segment → SegmentInterpreter
 segmentInterpreter file segment =
     cond (ltb limit (length file)) (Refused tooLong)
     (cond (not (eqb (segment .kind) 3)) NotThisKind
-    (cond (isInFile file segment) (upToZero (segment .offset) (bytesOf file segment))
+    (cond (isInFile file segment) (upToZero (segment .offset) (segmentBytes file segment))
     (Refused badInterpreterPlace)))

@@ -7,9 +7,9 @@ use native.Mathlib.Omega.{arith}
 use lib.Dec.{ltb}
 use lib.ListN.{length, drop, length-drop}
 use borrow.Author.Tests.{ltb-true, ltb-false}
-use Rattle.endian.specs.First.{first}
+use Rattle.endian.specs.First.{first, isZero, readable}
 use Rattle.endian.specs.Refusals.{limit, tooLong, noString}
-use Rattle.strings.specs.Strings.{isZero, readable, stringAt}
+use Rattle.strings.specs.Strings.{stringAt}
 use Rattle.strings.specs.declared.StringAt.the-variants.{At, Refused}
 
 readable-inside : (strings : List ℕ) (offset : ℕ) → readable (drop offset strings) ≡ true

@@ -14,10 +14,10 @@ use borrow.Author.Tests.{eq-eqb, eqb-true, lt-ltb, le-ltb}
 pub use Rattle.endian.proofs.Falsity.{false-true}
 use Rattle.endian.specs.declared.refusals.Refusal.{Refusal}
 use Rattle.strings.specs.declared.StringAt.the-variants.{At, Refused}
-use Rattle.endian.specs.First.{first}
+use Rattle.endian.specs.First.{first, isZero, readable, same}
 use Rattle.endian.specs.Refusals.{limit, noString}
 use Rattle.name_match.specs.Reads.{text, reads}
-use Rattle.strings.specs.Strings.{isZero, readable, same, isName, stringAt, stringEquals}
+use Rattle.strings.specs.Strings.{isName, stringAt, stringEquals}
 
 pub same-refl : (s : List ℕ) → same s s ≡ true
 same-refl [] = refl

@@ -10,12 +10,12 @@ use mathlib.Core.Path.{_≡_, refl, sym, ap, _∙_}
 use mathlib.Core.Bool.{Bool, true, false, cond}
 use mathlib.Core.List.{List, [], _∷_, _++_}
 use native.Mathlib.Omega.{arith}
-use lib.Dec.{ltb, eqb}
+use lib.Dec.{ltb}
 use lib.ListN.{length, getD, take, drop, length-drop}
 use lib.Seq.{take-suc, take-length, length-take-le}
 use borrow.Author.Tests.{eq-eqb, ne-eqb, ltb-true, ltb-false, lt-ltb, le-ltb}
-use Rattle.endian.specs.First.{first}
-use Rattle.strings.specs.Strings.{isZero, readable, afterZero}
+use Rattle.endian.specs.First.{first, isZero, readable}
+use Rattle.strings.specs.AfterZero.{afterZero}
 
 module _ (s : List ℕ) (at : ℕ) where
   pub readable-true : first isZero (drop at s) < length s - at → readable (drop at s) ≡ true

@@ -1,1 +1,2 @@
+pub mod AfterZero
 pub mod Strings

@@ -6,7 +6,8 @@ use endian::refusals::TOO_LONG;
 use name_match::reads_name;
 use zero_search::first_zero;
 ghost use mathlib.Core.Path.{_≡_};
-ghost use Rattle.strings.specs.Strings.{afterZero, stringAt, stringEquals};
+ghost use Rattle.strings.specs.Strings.{stringAt, stringEquals};
+ghost use Rattle.strings.specs.AfterZero.{afterZero};
 
 // A part of the lent strings, without its zero.
 pub enum StringAt {
@@ -44,7 +45,7 @@ pub fn string_equals(strings: &[u8], offset: u32, name: &[u8]) -> bool
     reads_name(strings, offset as usize, name)
 }
 
-// The place after the last zero byte, or 0: a string can be read exactly if it starts below it.
+// The place after the last zero byte, or 0: exactly a string that starts below it has a zero.
 pub fn after_last_zero(strings: &[u8]) -> usize
     ensures { λ r. ⌜ r ≡ afterZero (now (strings .entry)) ⌝ }
 {

@@ -16,7 +16,7 @@ use Rattle.endian.specs.declared.kinds.Class.{Class}
 use Rattle.endian.specs.declared.kinds.Class.the-variants.{Elf32, Elf64}
 use Rattle.endian.specs.declared.kinds.Order.{Order}
 use Rattle.endian.specs.Refusals.{limit, anyLong, tooLong, noSymbol}
-use Rattle.endian.specs.Word.{Field, fieldAt}
+use Rattle.endian.specs.Word.{fieldAt}
 use Rattle.strings.specs.Strings.{stringAt}
 use Rattle.strings.specs.declared.StringAt.{StringAt}
 use Rattle.strings.specs.declared.StringAt.the-variants.{Refused as String·Refused}
@@ -26,24 +26,6 @@ use Rattle.symbol.specs.declared.table.SymbolCount.{SymbolCount}
 use Rattle.symbol.specs.declared.table.SymbolCount.the-variants.{Symbols, Refused as Count·Refused}
 use Rattle.symbol.specs.declared.table.SymbolAt.{SymbolAt}
 use Rattle.symbol.specs.declared.table.SymbolAt.the-variants.{At, Refused}
-
-pub data SymbolField : Type 0 where
-  name value size info other shndx : SymbolField
-
--- Sym32 and Sym64 of document 01
-abbrev pub layout : Class → SymbolField → Field
-layout Elf32 name = record { at = 0; width = 4 }
-layout Elf32 value = record { at = 4; width = 4 }
-layout Elf32 size = record { at = 8; width = 4 }
-layout Elf32 info = record { at = 12; width = 1 }
-layout Elf32 other = record { at = 13; width = 1 }
-layout Elf32 shndx = record { at = 14; width = 2 }
-layout Elf64 name = record { at = 0; width = 4 }
-layout Elf64 info = record { at = 4; width = 1 }
-layout Elf64 other = record { at = 5; width = 1 }
-layout Elf64 shndx = record { at = 6; width = 2 }
-layout Elf64 value = record { at = 8; width = 8 }
-layout Elf64 size = record { at = 16; width = 8 }
 
 abbrev pub symbolIndex : ℕ → SymbolIndex
 symbolIndex i = record { 0 = i }
@@ -55,15 +37,14 @@ symbolSize Elf64 = 24
 abbrev pub symbolsIn : Class → (symbols : List ℕ) → ℕ
 symbolsIn class symbols = length symbols / symbolSize class
 
+-- Sym32 and Sym64 of document 01: the width of each field, and where it stands
 abbrev pub symbolOf : Class → Order → List ℕ → (base : ℕ) → Symbol
-symbolOf class order s base = record {
-  name = fieldAt order s base (layout class name);
-  value = fieldAt order s base (layout class value);
-  size = fieldAt order s base (layout class size);
-  info = fieldAt order s base (layout class info);
-  other = fieldAt order s base (layout class other);
-  shndx = fieldAt order s base (layout class shndx);
-}
+symbolOf Elf32 order s base =
+    let f = fieldAt order s base in
+    record { name = f 4 0; value = f 4 4; size = f 4 8; info = f 1 12; other = f 1 13; shndx = f 2 14 }
+symbolOf Elf64 order s base =
+    let f = fieldAt order s base in
+    record { name = f 4 0; info = f 1 4; other = f 1 5; shndx = f 2 6; value = f 8 8; size = f 8 16 }
 
 abbrev pub symbolCount : Class → List ℕ → SymbolCount
 symbolCount class s = cond (ltb limit (length s)) (Count·Refused tooLong) (Symbols (symbolsIn class s))

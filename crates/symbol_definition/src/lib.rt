@@ -48,8 +48,9 @@ fn starts_with_dollar(strings: &[u8], offset: u32) -> bool
     }
 }
 
-// Whether a symbol defines a function or a data object. A local one without a type does unless its
-// name, where it can be read, starts with `$`: a mapping symbol. Refused: strings that are too long.
+// Whether a symbol is a definition: its section is neither undefined nor reserved, and it is a
+// function, a data object or without a type. A local one without a type is none if its name can be read
+// and starts with `$`: a mapping symbol. Refused first: strings that are too long.
 pub fn is_definition(symbol: Symbol, strings: &[u8]) -> Definition
     ensures { λ r. ⌜ r ≡ definition (now (strings .entry)) symbol ⌝ }
 {

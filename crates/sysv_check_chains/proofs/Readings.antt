@@ -23,8 +23,7 @@ use Rattle.symbol.specs.declared.table.SymbolAt.{SymbolAt}
 use Rattle.symbol.specs.declared.table.SymbolAt.the-variants.{At as Symbol·At, Refused as Symbol·Refused}
 use Rattle.symbol.specs.Table.{symbolAt, symbolName, nameIn, symbolIndex}
 use Rattle.name_hash.specs.declared.NameHash.the-variants.{Hash, Refused as Hash·Refused}
-use Rattle.name_hash.specs.Hash.{sysvHash}
-use Rattle.name_hash.specs.Hash.{hashOf as hashAnswer}
+use Rattle.name_hash.specs.Hash.{sysvHash, nameHash as hashAnswer}
 use Rattle.lookup.specs.Wanted.{bytesOf, nameOf}
 use Rattle.sysv_check_chains.specs.Pass.{hashOf}
 

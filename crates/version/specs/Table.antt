@@ -29,12 +29,9 @@ abbrev pub fileOf : (kind start len : ℕ) → Part
 fileOf kind start len = cond (eqb kind 2) (record { start = start; len = len }) noFile
 
 unfoldable pub storedAt : List ℕ → VersionIndex → Version
-storedAt store index = record {
-  kind = numberAt store index 0;
-  hash = numberAt store index 1;
-  name = record { start = numberAt store index 2; len = numberAt store index 3 };
-  file = fileOf (numberAt store index 0) (numberAt store index 4) (numberAt store index 5);
-}
+storedAt store index =
+    let n = numberAt store index in
+    record { kind = n 0; hash = n 1; name = record { start = n 2; len = n 3 }; file = fileOf (n 0) (n 4) (n 5) }
 
 abbrev pub inside : List ℕ → Part → Bool
 inside strings part = leb (part .start + part .len) (length strings)

@@ -89,9 +89,9 @@ fn is_valid(strings: &[u8], version: Version) -> bool
     false
 }
 
-// The version behind an index. The store may hold anything. Refused in this order: strings that are
-// too long; an index past the whole entries, or an entry of another kind, or one whose name or file
-// lies outside the strings.
+// The version behind an index. The store may hold anything. Refused first: strings that are too long.
+// Then 0 and 1 are special. Then refused: an index past the whole entries, or an entry of another
+// kind, or one whose name or (of a need) file lies outside the strings.
 pub fn entry(store: &[u32], strings: &[u8], index: VersionIndex) -> EntryAt
     ensures { λ r. ⌜ r ≡ entryAt (now (store .entry)) (now (strings .entry)) index ⌝ }
 {

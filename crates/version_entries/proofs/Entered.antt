@@ -21,7 +21,8 @@ use Rattle.version_layout.specs.declared.steps.Record.{Record}
 use Rattle.version_layout.specs.declared.steps.Aux.{Aux}
 use Rattle.version.specs.declared.index.VersionIndex.{VersionIndex}
 use Rattle.version.specs.declared.store.Version.{Version}
-use Rattle.version_entries.specs.Entries.{storing, passedOver, entryStep, entryOutcome}
+use Rattle.version_entries.specs.Entries.{storing, passedOver}
+use Rattle.version_entries.specs.EntryAnswers.{entryStep, entryOutcome}
 use Rattle.version_entries.specs.declared.entries.EntryStep.{EntryStep}
 
 module _ (index : VersionIndex) (version : Outcome Version) where

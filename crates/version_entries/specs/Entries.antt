@@ -4,8 +4,6 @@
 --     needVersion                       of a needed version (20, then 19)
 --     storing                           what a record stores: nothing if it is passed over
 --     defEntries, auxEntries            what a definition, a needed version store
---     entryStep                         what is answered
---     partOutcome, entryOutcome         what an answer says
 -- Assumes nothing.
 use Prim.Native.Nat.{ℕ}
 use mathlib.Core.List.{List, [], _∷_}
@@ -14,24 +12,20 @@ use lib.Dec.{eqb}
 use Rattle.endian.specs.declared.kinds.Order.{Order}
 use Rattle.endian.specs.declared.refusals.Refusal.{Refusal}
 use Rattle.endian.specs.Refusals.{badVerdauxName, badVerneedFile, badVernauxName}
-use Rattle.endian.specs.Word.{fieldAt}
 use Rattle.strings.specs.Strings.{stringAt}
 use Rattle.strings.specs.declared.StringAt.{StringAt}
 use Rattle.version.specs.Index.{isSpecial}
-use Rattle.version_layout.specs.Layouts.{verdef, verdaux, vernaux}
+use Rattle.version_layout.specs.Layouts.{fieldOf, verdef, verdaux, vernaux}
 use Rattle.version_records.specs.Outcome.{Outcome, bind}
 use Rattle.version_records.specs.Outcome.Outcome.{fine, stop}
 use Rattle.version_records.specs.Records.{verdauxShape, auxAt}
-use Rattle.version_layout.specs.Indices.{defIndex, needIndex}
-use Rattle.version_layout.specs.Steps.{isBase}
+use Rattle.version_layout.specs.Indices.{defIndex, needIndex, isBase}
 use Rattle.version.specs.Store.{noFile, Stored}
 use Rattle.version.specs.declared.index.VersionIndex.{VersionIndex}
 use Rattle.version_layout.specs.declared.steps.Record.{Record}
 use Rattle.version_layout.specs.declared.steps.Aux.{Aux}
 use Rattle.version.specs.declared.store.Part.{Part}
 use Rattle.version.specs.declared.store.Version.{Version}
-use Rattle.version_entries.specs.declared.entries.PartStep.{PartStep}
-use Rattle.version_entries.specs.declared.entries.EntryStep.{EntryStep}
 
 -- of what was read at an offset
 abbrev pub readPart : Refusal → StringAt → Outcome Part
@@ -45,13 +39,13 @@ partAt e strings offset = readPart e (stringAt strings offset)
 unfoldable pub defVersion : Order → (s strings : List ℕ) → Record → Outcome Version
 defVersion order s strings d =
     bind (auxAt verdauxShape order s (d .aux)) (λ a.
-    bind (partAt badVerdauxName strings (fieldAt order s (a .at) (verdaux .name))) (λ name.
-    fine (record { kind = 1; hash = fieldAt order s (d .at) (verdef .hash); name = name; file = noFile })))
+    bind (partAt badVerdauxName strings (fieldOf order s (a .at) (verdaux .name))) (λ name.
+    fine (record { kind = 1; hash = fieldOf order s (d .at) (verdef .hash); name = name; file = noFile })))
 
 -- flagged base, or a special index, or no aux
 abbrev pub passedOver : Order → List ℕ → Record → Bool
 passedOver order s d =
-    isBase order s d || (isSpecial (defIndex order s (d .at)) || eqb (fieldAt order s (d .at) (verdef .cnt)) 0)
+    isBase order s d || (isSpecial (defIndex order s (d .at)) || eqb (fieldOf order s (d .at) (verdef .cnt)) 0)
 
 -- nothing where the record is passed over, else its version
 abbrev pub storing : (passed : Bool) → VersionIndex → Outcome Version → Outcome (List Stored)
@@ -63,25 +57,11 @@ defEntries order s strings d = storing (passedOver order s d) (defIndex order s 
 
 unfoldable pub needVersion : Order → (s strings : List ℕ) → (file : ℕ) → Aux → Outcome Version
 needVersion order s strings file a =
-    bind (partAt badVernauxName strings (fieldAt order s (a .at) (vernaux .name))) (λ name.
+    bind (partAt badVernauxName strings (fieldOf order s (a .at) (vernaux .name))) (λ name.
     bind (partAt badVerneedFile strings file) (λ part.
-    fine (record { kind = 2; hash = fieldAt order s (a .at) (vernaux .hash); name = name; file = part })))
+    fine (record { kind = 2; hash = fieldOf order s (a .at) (vernaux .hash); name = name; file = part })))
 
 -- a special index stores nothing
 abbrev pub auxEntries : Order → (s strings : List ℕ) → (file : ℕ) → Aux → Outcome (List Stored)
 auxEntries order s strings file a =
     storing (isSpecial (needIndex order s (a .at))) (needIndex order s (a .at)) (needVersion order s strings file a)
-
-abbrev pub partOutcome : PartStep → Outcome Part
-partOutcome (PartStep.Is part) = fine part
-partOutcome (PartStep.Refused e) = stop e
-
-abbrev pub entryStep : Outcome (List Stored) → EntryStep
-entryStep (fine []) = EntryStep.Nothing
-entryStep (fine (x ∷ xs)) = EntryStep.Is (x .index) (x .version)
-entryStep (stop e) = EntryStep.Refused e
-
-abbrev pub entryOutcome : EntryStep → Outcome (List Stored)
-entryOutcome EntryStep.Nothing = fine []
-entryOutcome (EntryStep.Is index version) = fine (record { index = index; version = version } ∷ [])
-entryOutcome (EntryStep.Refused e) = stop e

@@ -25,7 +25,8 @@ ghost use mathlib.Core.Path.{_≡_};
 ghost use mathlib.Core.Bool.{false};
 ghost use Prim.Native.Nat.{_≤_};
 ghost use lib.ListN.{length};
-ghost use Rattle.version_entries.specs.Entries.{partAt, partOutcome, defVersion, passedOver, storing, defEntries, needVersion, auxEntries, entryStep};
+ghost use Rattle.version_entries.specs.Entries.{partAt, defVersion, passedOver, storing, defEntries, needVersion, auxEntries};
+ghost use Rattle.version_entries.specs.EntryAnswers.{partOutcome, entryStep};
 
 // What a record stores: nothing if it is passed over.
 pub enum EntryStep {

@@ -4,7 +4,7 @@
 use mathlib.Core.Path.{_≡_, ap}
 use Rattle.version_records.specs.Outcome.{Outcome}
 use Rattle.version_records.specs.Outcome.Outcome.{fine, stop}
-use Rattle.version_highest.specs.Highest.{highAnswer, highOutcome}
+use Rattle.version_highest.specs.HighestAnswers.{highAnswer, highOutcome}
 use Rattle.version.specs.declared.index.VersionIndex.{VersionIndex}
 use Rattle.version_highest.specs.declared.highest.High.{High}
 

@@ -1,26 +1,20 @@
 -- The first pass (01, module 5): the highest index over definitions (whole 16 bits) and needs (low 15 bits).
 --     defIndices, auxIndices, needIndices  the indices that a definition, a needed version, a need name
 --     indices                              those of the definitions, then those of the needs
---     highest                              the highest of them, or 0 where there is none
---     highAnswer                           what is answered
---     highOutcome, highRefusal             what an answer says, and why it was refused
+--     highestIndex                         the highest of them, or 0 where there is none
 -- Assumes nothing.
 use Prim.Native.Nat.{ℕ, max}
 use mathlib.Core.List.{List, [], _∷_}
 use mathlib.Core.Bool.{cond}
 use Rattle.endian.specs.declared.kinds.Order.{Order}
-use Rattle.endian.specs.declared.refusals.Refusal.{Refusal}
-use Rattle.endian.specs.Refusals.{refusal}
-use Rattle.version_layout.specs.Indices.{defIndex, needIndex}
-use Rattle.version_layout.specs.Steps.{isBase}
+use Rattle.version_layout.specs.Indices.{defIndex, needIndex, isBase}
 use Rattle.version_records.specs.Outcome.{Outcome, both, folded}
-use Rattle.version_records.specs.Outcome.Outcome.{fine, stop}
+use Rattle.version_records.specs.Outcome.Outcome.{fine}
 use Rattle.version_records.specs.Walk.{collect}
 use Rattle.version_records.specs.Records.{verdefs, verneeds, vernauxs, needCount}
 use Rattle.version.specs.declared.index.VersionIndex.{VersionIndex}
 use Rattle.version_layout.specs.declared.steps.Record.{Record}
 use Rattle.version_layout.specs.declared.steps.Aux.{Aux}
-use Rattle.version_highest.specs.declared.highest.High.{High}
 
 -- definitions flagged base are passed over
 unfoldable pub defIndices : Order → List ℕ → Record → Outcome (List VersionIndex)
@@ -40,17 +34,5 @@ indices order verdef verneed =
 unfoldable pub higherOf : VersionIndex → VersionIndex → VersionIndex
 higherOf high index = record { 0 = max (high .0) (index .0) }
 
-abbrev pub highest : Order → (verdef verneed : List ℕ) → Outcome VersionIndex
-highest order verdef verneed = folded higherOf (record { 0 = 0 }) (indices order verdef verneed)
-
-abbrev pub highAnswer : Outcome VersionIndex → High
-highAnswer (fine index) = High.Is index
-highAnswer (stop e) = High.Refused e
-
-abbrev pub highOutcome : High → Outcome VersionIndex
-highOutcome (High.Is index) = fine index
-highOutcome (High.Refused e) = stop e
-
-abbrev pub highRefusal : High → Refusal
-highRefusal (High.Is index) = refusal 0
-highRefusal (High.Refused e) = e
+abbrev pub highestIndex : Order → (verdef verneed : List ℕ) → Outcome VersionIndex
+highestIndex order verdef verneed = folded higherOf (record { 0 = 0 }) (indices order verdef verneed)

@@ -21,7 +21,8 @@ ghost use Rattle.version_records.specs.Outcome.Outcome.{fine};
 ghost use Rattle.version_records.specs.Outcome.{folded};
 ghost use Rattle.version_records.specs.Walk.{collect};
 ghost use Rattle.version_records.specs.Records.{verdefs, verneeds};
-ghost use Rattle.version_highest.specs.Highest.{higherOf, highOutcome, highAnswer, defIndices, needIndices, highest};
+ghost use Rattle.version_highest.specs.Highest.{higherOf, defIndices, needIndices, highestIndex};
+ghost use Rattle.version_highest.specs.HighestAnswers.{highOutcome, highAnswer};
 
 pub enum High {
     Is(VersionIndex),
@@ -112,7 +113,7 @@ fn highest_need(order: Order, s: &[u8], known: VersionIndex) -> High
 
 // The first pass: definitions, then needs.
 pub fn first_pass(order: Order, verdef: &[u8], verneed: &[u8]) -> High
-    ensures { λ r. ⌜ r ≡ highAnswer (highest order (now (verdef .entry)) (now (verneed .entry))) ⌝ }
+    ensures { λ r. ⌜ r ≡ highAnswer (highestIndex order (now (verdef .entry)) (now (verneed .entry))) ⌝ }
 {
     let of_defs = highest_def(order, verdef);
     let High::Is(high) = of_defs else {

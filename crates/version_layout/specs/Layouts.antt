@@ -1,59 +1,30 @@
 -- The records of the version sections, as document 01's "Layouts" and the LSB's symbol versioning chapter lay them out.
---     verdef, verdaux, verneed, vernaux    where the fields of each stand
+--     Field, fieldOf                       a field's width and its place in its record; the field of the record at a place
+--     verdef, verdaux, verneed, vernaux    the fields of each that are read
 -- Assumes nothing.
 use Prim.Native.Nat.{ℕ}
-use Rattle.endian.specs.Word.{Field}
+use mathlib.Core.List.{List}
+use Rattle.endian.specs.declared.kinds.Order.{Order}
+use Rattle.endian.specs.Word.{fieldAt}
 
-abbrev pub field : (at width : ℕ) → Field
-field at width = record { at = at; width = width }
+abbrev pub Field : Type 0
+Field = ℕ × ℕ
 
-pub record Verdef : Type 0 where
-  pub version : Field
-  pub flags : Field
-  pub ndx : Field
-  pub cnt : Field
-  pub hash : Field
-  pub aux : Field
-  pub next : Field
+abbrev pub fieldOf : Order → List ℕ → (base : ℕ) → Field → ℕ
+fieldOf order s base field = fieldAt order s base (field .0) (field .1)
 
--- 20 bytes
-abbrev pub verdef : Verdef
-verdef = record {
-  version = field 0 2;
-  flags = field 2 2;
-  ndx = field 4 2;
-  cnt = field 6 2;
-  hash = field 8 4;
-  aux = field 12 4;
-  next = field 16 4;
-}
-
-pub record Verdaux : Type 0 where
-  pub name : Field
-  pub next : Field
+-- 20 bytes; the first 2 are its own version
+abbrev pub verdef : record { flags : Field; ndx : Field; cnt : Field; hash : Field; aux : Field; next : Field }
+verdef = record { flags = (2, 2); ndx = (2, 4); cnt = (2, 6); hash = (4, 8); aux = (4, 12); next = (4, 16) }
 
 -- 8 bytes
-abbrev pub verdaux : Verdaux
-verdaux = record { name = field 0 4; next = field 4 4 }
+abbrev pub verdaux : record { name : Field; next : Field }
+verdaux = record { name = (4, 0); next = (4, 4) }
 
-pub record Verneed : Type 0 where
-  pub version : Field
-  pub cnt : Field
-  pub file : Field
-  pub aux : Field
-  pub next : Field
+-- 16 bytes; the first 2 are its own version
+abbrev pub verneed : record { cnt : Field; file : Field; aux : Field; next : Field }
+verneed = record { cnt = (2, 2); file = (4, 4); aux = (4, 8); next = (4, 12) }
 
--- 16 bytes
-abbrev pub verneed : Verneed
-verneed = record { version = field 0 2; cnt = field 2 2; file = field 4 4; aux = field 8 4; next = field 12 4 }
-
-pub record Vernaux : Type 0 where
-  pub hash : Field
-  pub flags : Field
-  pub other : Field
-  pub name : Field
-  pub next : Field
-
--- 16 bytes
-abbrev pub vernaux : Vernaux
-vernaux = record { hash = field 0 4; flags = field 4 2; other = field 6 2; name = field 8 4; next = field 12 4 }
+-- 16 bytes; the 2 after the hash are its flags
+abbrev pub vernaux : record { hash : Field; other : Field; name : Field; next : Field }
+vernaux = record { hash = (4, 0); other = (2, 6); name = (4, 8); next = (4, 12) }

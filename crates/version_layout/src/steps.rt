@@ -3,7 +3,8 @@ use endian::kinds::Order;
 use endian::refusals::Refusal;
 use word::u16_at;
 ghost use mathlib.Core.Path.{_≡_};
-ghost use Rattle.version_layout.specs.Steps.{recordRefusal, auxRefusal, isBase};
+ghost use Rattle.version_layout.specs.Steps.{recordRefusal, auxRefusal};
+ghost use Rattle.version_layout.specs.Indices.{isBase};
 
 // A record of a list: its place, the place of its chain, and that of the next record.
 pub struct Record {

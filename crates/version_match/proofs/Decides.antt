@@ -14,11 +14,11 @@ use lib.ListN.{length}
 use borrow.Author.Tests.{eq-eqb, eqb-true}
 use Rattle.endian.specs.declared.kinds.Order.{Order}
 use Rattle.endian.specs.Refusals.{limit}
-use Rattle.strings.specs.Strings.{same}
+use Rattle.endian.specs.First.{same}
 use Rattle.strings.proofs.Meaning.{false-true, same-refl, same-true}
 use Rattle.symbol.specs.declared.table.SymbolIndex.{SymbolIndex}
 use Rattle.version.specs.Table.{entryAt, versymAt}
-use Rattle.version_match.specs.Match.{nameOf, satisfied, matchOf, matching}
+use Rattle.version_match.specs.Match.{satisfied, matchOf, matching, versionName}
 use Rattle.version.specs.declared.store.Version.{Version}
 use Rattle.version.specs.declared.table.EntryAt.{EntryAt}
 use Rattle.version.specs.declared.table.Versym.{Versym}
@@ -35,7 +35,7 @@ pub record Bound (order : Order) (versyms store strings : List ℕ) (symbol : Sy
   pub symbols : versymAt order versyms symbol ≡ VersymAt.At versym
   pub entry : entryAt store strings (versym .index) ≡ EntryAt.At version
   pub hashed : version .hash ≡ hash
-  pub named : nameOf strings version ≡ name
+  pub named : versionName strings version ≡ name
 
 module _ (order : Order) (versyms store strings : List ℕ) (symbol : SymbolIndex) where
   module _ (hash : ℕ) (name : List ℕ) where
@@ -51,14 +51,14 @@ module _ (order : Order) (versyms store strings : List ℕ) (symbol : SymbolInde
         inner m v (EntryAt.Refused r) e h = false-true h
         inner m v EntryAt.Special e h = false-true h
         inner m v (EntryAt.At version) e h =
-            let k = and-both (eqb (version .hash) hash) (same (nameOf strings version) name) h in
+            let k = and-both (eqb (version .hash) hash) (same (versionName strings version) name) h in
             record {
               versym = m;
               version = version;
               symbols = v;
               entry = e;
               hashed = eqb-true (version .hash) hash (k .0);
-              named = same-true (nameOf strings version) name (k .1);
+              named = same-true (versionName strings version) name (k .1);
             }
 
         by : (v : VersymAt) → versymAt order versyms symbol ≡ v → matchOf store strings (Need.Hash hash) name v ≡ true
@@ -83,7 +83,7 @@ module _ (order : Order) (versyms store strings : List ℕ) (symbol : SymbolInde
             let b = match-need e in
             let fits : length strings ≤ limit = entry-valid store strings (b .versym .index) (b .version) (b .entry) .0 in
             let part = part-short strings (b .version .name .start) (b .version .name .len) in
-            let same-length : length (nameOf strings (b .version)) ≡ length name = ap length (b .named) in
+            let same-length : length (versionName strings (b .version)) ≡ length name = ap length (b .named) in
             absurd (omega arith)
 
   pub match-one : (hash hash′ : ℕ) (name name′ : List ℕ)
@@ -97,4 +97,4 @@ module _ (order : Order) (versyms store strings : List ℕ) (symbol : SymbolInde
       let e : EntryAt.At (b .version) ≡ EntryAt.At (b′ .version) =
       sym (b .entry) ∙ ap (λ (m : Versym). entryAt store strings (m .index)) m ∙ b′ .entry in
       let v : b .version ≡ b′ .version = cc in
-      (sym (b .hashed) ∙ ap (λ (v : Version). v .hash) v ∙ b′ .hashed, sym (b .named) ∙ ap (nameOf strings) v ∙ b′ .named)
+      (sym (b .hashed) ∙ ap (λ (v : Version). v .hash) v ∙ b′ .hashed, sym (b .named) ∙ ap (versionName strings) v ∙ b′ .named)

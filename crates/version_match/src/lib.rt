@@ -10,12 +10,12 @@ ghost use mathlib.Core.Path.{_≡_};
 ghost use mathlib.Core.Bool.{true};
 ghost use Prim.Native.Nat.{_+_, _≤_};
 ghost use lib.ListN.{length, take, drop};
-ghost use Rattle.strings.specs.Strings.{same};
+ghost use Rattle.endian.specs.First.{same};
 ghost use Rattle.version.specs.Table.{inside};
 ghost use Rattle.version_match.specs.Match.{isNeeded, matching};
 
-// Which version is needed: any that is not hidden, or the one of a hash and a name, which stands
-// beside it.
+// Which version is needed: none in particular, which a special index meets and every version that is
+// not hidden, or the one of a hash and a name, which stands beside it.
 pub enum Need {
     Any,
     Hash(u32),
@@ -49,8 +49,9 @@ fn is_needed(strings: &[u8], version: Version, hash: u32, name: &[u8]) -> bool
     equal_at(strings, version.name.start as usize, name)
 }
 
-// Whether the version of a symbol is the one that is needed: never where the index behind it is
-// invalid or a part is too long. The name is not looked at where any version will do.
+// Whether the version of a symbol is the one that is needed: never where versyms or strings are too
+// long, or the index behind it is invalid. The name is not held to the limit: beside `Any` it is not
+// looked at, and one that is too long is no version's.
 pub fn matches(
     order: Order,
     versyms: &[u8],

@@ -25,14 +25,13 @@ use Rattle.version_records.specs.Walk.{Walk, collect}
 use Rattle.version_records.specs.Walk.Walk.{end, broken, more}
 use Rattle.version.specs.Index.{isSpecial}
 use Rattle.version_records.specs.Records.{verdefs, verneeds, vernauxs, needCount}
-use Rattle.version_layout.specs.Indices.{defIndex, needIndex}
-use Rattle.version_layout.specs.Steps.{isBase}
-use Rattle.version_highest.specs.Highest.{highest}
+use Rattle.version_layout.specs.Indices.{defIndex, needIndex, isBase}
+use Rattle.version_highest.specs.Highest.{highestIndex}
 use Rattle.version.specs.Store.{entrySize, storeNeeds, versionNumbers, Stored, putEntry}
 use Rattle.version_entries.specs.Entries.{storing, passedOver, defVersion, needVersion, defEntries, auxEntries}
-use Rattle.version_parse.specs.Entries.{needEntries, entries}
+use Rattle.version_parse.specs.SecondPass.{needEntries, entries}
 use Rattle.version_parse.specs.Room.{All, DefRoom, AuxRoom, NeedRoom}
-use Rattle.version_parse.specs.Parse.{Table, parsedInto, parsed}
+use Rattle.version_parse.specs.Parse.{parsedInto, parsed, ParsedStore}
 use Rattle.version.specs.Table.{numberAt}
 use Rattle.version.specs.declared.index.VersionIndex.{VersionIndex}
 use Rattle.version_layout.specs.declared.steps.Record.{Record}
@@ -147,7 +146,7 @@ module _ (n : ℕ) where
         (vernauxs order s (needCount order s r) (r .aux)) room xs h
 
   pub entries-fit : (order : Order) (verdef verneed strings : List ℕ) (high : VersionIndex)
-      → highest order verdef verneed ≡ fine high
+      → highestIndex order verdef verneed ≡ fine high
       → storeNeeds high ≤ n → (xs : List Stored) → entries order verdef verneed strings ≡ fine xs → Fits n xs
   entries-fit order verdef verneed strings high h room xs =
       let rooms = highest-room order verdef verneed n high h room in
@@ -165,29 +164,29 @@ zeros n = replicate n 0
 zeros-length : (n : ℕ) → length (zeros n) ≡ n
 zeros-length n = length-replicate n _
 
-abbrev table-of : VersionIndex → Outcome (List ℕ) → Outcome Table
+abbrev table-of : VersionIndex → Outcome (List ℕ) → Outcome ParsedStore
 table-of high filled = bind filled (λ store. fine (record { highest = high; store = store }))
 
-module _ (order : Order) (verdef verneed strings : List ℕ) (n : ℕ) (table : Table)
+module _ (order : Order) (verdef verneed strings : List ℕ) (n : ℕ) (table : ParsedStore)
     (done : parsed order verdef verneed strings n
     ≡ fine table) (xs : List Stored) (listed : entries order verdef verneed strings ≡ fine xs) where
-  pub parsed-from : (highest order verdef verneed
+  pub parsed-from : (highestIndex order verdef verneed
       ≡ fine (table .highest)) × (storeNeeds (table .highest) ≤ n) × (table .store ≡ foldl putEntry (zeros n) xs)
   unfolding parsedInto
   parsed-from =
       let fits = cond-fine (anyLong (verdef ∷ verneed ∷ strings ∷ [])) tooLong _ table done .1 in
-      let high = bind-from (highest order verdef verneed) _ table fits in
+      let high = bind-from (highestIndex order verdef verneed) _ table fits in
       let room = cond-fine (ltb (length (zeros n)) (storeNeeds (high .0))) storeTooSmall
       (table-of (high .0) (folded putEntry (zeros n) (entries order verdef verneed strings))) table (high .2) in
-      let made : Table = record { highest = high .0; store = foldl putEntry (zeros n) xs } in
+      let made : ParsedStore = record { highest = high .0; store = foldl putEntry (zeros n) xs } in
       let all : table-of (high .0) (folded putEntry (zeros n) (entries order verdef verneed strings)) ≡ fine made =
       ap (λ (o : Outcome (List Stored)). table-of (high .0) (folded putEntry (zeros n) o)) listed in
       let whole : table ≡ made = fine-same table made (sym (room .1) ∙ all) in
       let enough : storeNeeds (high .0) ≤ length (zeros n) =
       ltb-false (length (zeros n)) (storeNeeds (high .0)) (room .0) in (
-        high .1 ∙ ap (λ (t : Table). fine (t .highest)) (sym whole),
-        omega (arith, zeros-length n, ap (λ (t : Table). t .highest .0) whole),
-        ap (λ (t : Table). t .store) whole,
+        high .1 ∙ ap (λ (t : ParsedStore). fine (t .highest)) (sym whole),
+        omega (arith, zeros-length n, ap (λ (t : ParsedStore). t .highest .0) whole),
+        ap (λ (t : ParsedStore). t .store) whole,
       )
 
 zeros-at : (n j : ℕ) → getD (zeros n) j 0 ≡ 0
@@ -197,7 +196,7 @@ zeros-at n j = by (ltb j n) refl
     by true e = getD-replicate n j 0 0 (ltb-true j n e)
     by false e = List·getD-eq-default (zeros n) 0 {n = j} (rw (zeros-length n) (ltb-false j n e))
 
-module _ (order : Order) (verdef verneed strings : List ℕ) (n : ℕ) (table : Table)
+module _ (order : Order) (verdef verneed strings : List ℕ) (n : ℕ) (table : ParsedStore)
     (done : parsed order verdef verneed strings n ≡ fine table) (k : ℕ) (inner : k < entrySize) where
   pub stored-last : (before after : List Stored) (x : Stored)
       → entries order verdef verneed strings ≡ fine (before ++ (x ∷ after))

@@ -15,10 +15,11 @@ use Rattle.endian.specs.declared.refusals.Refusal.{Refusal}
 use Rattle.endian.specs.Refusals.{anyLong, tooLong, storeTooSmall}
 use Rattle.version_records.specs.Outcome.{Outcome, folded}
 use Rattle.version_records.specs.Outcome.Outcome.{fine, stop}
-use Rattle.version_highest.specs.Highest.{highest}
+use Rattle.version_highest.specs.Highest.{highestIndex}
 use Rattle.version.specs.Store.{storeNeeds, putEntry}
-use Rattle.version_parse.specs.Entries.{entries}
-use Rattle.version_parse.specs.Parse.{Table, parsedInto, parsedOutcome, answerOf, storeAfter}
+use Rattle.version_parse.specs.SecondPass.{entries}
+use Rattle.version_parse.specs.ParseAnswers.{parsedOutcome}
+use Rattle.version_parse.specs.Parse.{parsedInto, answerOf, storeAfter, ParsedStore}
 use Rattle.version.specs.declared.index.VersionIndex.{VersionIndex}
 use Rattle.version_parse.specs.declared.parse.Parsed.{Parsed}
 
@@ -31,12 +32,12 @@ module _ (order : Order) (verdef verneed strings st : List ℕ) where
   parsed-long h = rw h
 
   module _ (fits : long ≡ false) where
-    pub parsed-first : (e : Refusal) → highest order verdef verneed ≡ stop e
+    pub parsed-first : (e : Refusal) → highestIndex order verdef verneed ≡ stop e
         → stop e ≡ parsedInto order verdef verneed strings st
     unfolding parsedInto
     parsed-first e h = rw (fits, h)
 
-    module _ (high : VersionIndex) (h : highest order verdef verneed ≡ fine high) where
+    module _ (high : VersionIndex) (h : highestIndex order verdef verneed ≡ fine high) where
       pub parsed-small : length st < storeNeeds high → stop storeTooSmall ≡ parsedInto order verdef verneed strings st
       unfolding parsedInto
       parsed-small l = rw (fits, h, lt-ltb _ _ l)
@@ -52,7 +53,7 @@ module _ (order : Order) (verdef verneed strings st : List ℕ) where
         unfolding parsedInto
         parsed-done filled f = rw (fits, h, le-ltb _ _ l, ← f)
 
-module _ (n : ℕ) (l : List ℕ) (o : Outcome Table) where
+module _ (n : ℕ) (l : List ℕ) (o : Outcome ParsedStore) where
   pub answered : (r : Parsed) → parsedOutcome r l ≡ o → r ≡ answerOf o
   answered (Parsed.Highest high) h = ap answerOf h
   answered (Parsed.Refused e) h = ap answerOf h

@@ -18,13 +18,14 @@ use Rattle.version_records.specs.Walk.{Walk, collect}
 use Rattle.version_records.specs.Walk.Walk.{end, broken, more}
 use Rattle.version_records.specs.Records.{verdefs, verneeds, vernauxs, needCount}
 use Rattle.version_layout.specs.Indices.{defIndex, needIndex}
-use Rattle.version_highest.specs.Highest.{higherOf, defIndices, auxIndices, needIndices, highest}
+use Rattle.version_highest.specs.Highest.{higherOf, defIndices, auxIndices, needIndices, highestIndex}
 use Rattle.version.specs.Store.{storeNeeds}
 use Rattle.version_parse.specs.Room.{All, EntryRoom, DefRoom, AuxRoom, NeedRoom}
 use Rattle.version.specs.declared.index.VersionIndex.{VersionIndex}
 use Rattle.version_layout.specs.declared.steps.Record.{Record}
 use Rattle.version_layout.specs.declared.steps.Aux.{Aux}
-use Rattle.version_entries.specs.Entries.{storing, entryStep}
+use Rattle.version_entries.specs.Entries.{storing}
+use Rattle.version_entries.specs.EntryAnswers.{entryStep}
 use Rattle.version_entries.specs.declared.entries.EntryStep.{EntryStep}
 use Rattle.version.specs.declared.store.Version.{Version}
 use Rattle.version_records.proofs.Outcomes.{fine-same, stop-fine, bind-from, folded-both}
@@ -105,7 +106,7 @@ module _ (order : Order) (s : List ℕ) (n : ℕ) where
       (vernauxs order s (needCount order s r) (r .aux)) low high h fits
 
 pub highest-room : (order : Order) (verdef verneed : List ℕ) (n : ℕ) (high : VersionIndex)
-    → highest order verdef verneed ≡ fine high → storeNeeds high ≤ n
+    → highestIndex order verdef verneed ≡ fine high → storeNeeds high ≤ n
     → All (DefRoom order verdef n) (verdefs order verdef 0) × All (NeedRoom order verneed n) (verneeds order verneed 0)
 highest-room order verdef verneed n high h fits =
     let defs = collect (defIndices order verdef) (verdefs order verdef 0) in

@@ -1,3 +1,4 @@
-pub mod Entries
 pub mod Parse
+pub mod ParseAnswers
 pub mod Room
+pub mod SecondPass

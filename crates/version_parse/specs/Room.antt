@@ -1,4 +1,4 @@
--- A store of n numbers has room for what the records of a list store.
+-- Need not be believed: a store of n numbers has room for what the records of a list store. Inner contracts cite it.
 --     All                          what holds of every record of a walk
 --     EntryRoom                    room for what a record stores
 --     DefRoom, AuxRoom, NeedRoom   room for a definition, a needed version, a need
@@ -11,8 +11,7 @@ use Rattle.endian.specs.declared.kinds.Order.{Order}
 use Rattle.version_records.specs.Walk.{Walk}
 use Rattle.version_records.specs.Walk.Walk.{end, broken, more}
 use Rattle.version_records.specs.Records.{vernauxs, needCount}
-use Rattle.version_layout.specs.Indices.{defIndex, needIndex}
-use Rattle.version_layout.specs.Steps.{isBase}
+use Rattle.version_layout.specs.Indices.{defIndex, needIndex, isBase}
 use Rattle.version.specs.Store.{storeNeeds}
 use Rattle.version_layout.specs.declared.steps.Record.{Record}
 use Rattle.version_entries.specs.declared.entries.EntryStep.{EntryStep}

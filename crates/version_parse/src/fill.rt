@@ -23,8 +23,10 @@ ghost use Rattle.version_records.specs.Outcome.{folded};
 ghost use Rattle.version_records.specs.Walk.{collect};
 ghost use Rattle.version_records.specs.Records.{verdefs, verneeds};
 ghost use Rattle.version.specs.Store.{putEntry};
-ghost use Rattle.version_entries.specs.Entries.{defEntries, entryOutcome};
-ghost use Rattle.version_parse.specs.Entries.{needEntries, entries, filledOutcome};
+ghost use Rattle.version_entries.specs.Entries.{defEntries};
+ghost use Rattle.version_entries.specs.EntryAnswers.{entryOutcome};
+ghost use Rattle.version_parse.specs.SecondPass.{needEntries, entries};
+ghost use Rattle.version_parse.specs.ParseAnswers.{filledOutcome};
 ghost use Rattle.version_parse.specs.Room.{All, EntryRoom, DefRoom, NeedRoom};
 
 pub(crate) enum Filled {

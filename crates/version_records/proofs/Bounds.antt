@@ -14,7 +14,6 @@ use borrow.Author.Tests.{eqb-false}
 use Rattle.endian.specs.declared.kinds.Order.{Order}
 use Rattle.endian.specs.declared.refusals.Refusal.{Refusal}
 use Rattle.endian.specs.Word.{fieldAt}
-use Rattle.version_layout.specs.Layouts.{field}
 use Rattle.version_records.specs.Outcome.Outcome.{fine, stop}
 use Rattle.version_records.specs.Walk.Walk.{end, broken, more}
 use Rattle.version_records.specs.Records.{placeAfter, recordAt, auxAt, listed, vernauxs, vernauxShape}
@@ -22,7 +21,7 @@ use Rattle.version_records.specs.declared.records.ListShape.{ListShape}
 use Rattle.version_layout.specs.declared.steps.Record.{Record}
 use Rattle.version_layout.specs.declared.steps.Aux.{Aux}
 use Rattle.version_records.proofs.Outcomes.{fine-same, cond-fine}
-use Rattle.version_records.proofs.Walks.{chain-end, chain-more, chain-stop, counted-end, counted-more, counted-stop}
+use Rattle.version_records.proofs.Walks.{linked-end, linked-more, linked-stop, counted-end, counted-more, counted-stop}
 
 place-past : (n at next : ℕ) → at < n → at < placeAfter n at next
 unfolding placeAfter
@@ -34,10 +33,10 @@ place-past n at next h = by (eqb next 0) refl
 
 module _ (shape : ListShape) (order : Order) (s : List ℕ) (at : ℕ) where
   abbrev aux : ℕ
-  aux = fieldAt order s at (field (shape .aux) 4)
+  aux = fieldAt order s at 4 (shape .aux)
 
   abbrev next : ℕ
-  next = fieldAt order s at (field (shape .next) 4)
+  next = fieldAt order s at 4 (shape .next)
 
   abbrev whole : Record
   whole = record { at = at; aux = at + aux; next = placeAfter (length s) at next }
@@ -59,7 +58,7 @@ module _ (shape : ListShape) (order : Order) (s : List ℕ) (at : ℕ) where
     record-onward h = rw (record-read) (place-past _ _ _ h)
 
   pub listed-end : length s ≤ at → listed shape order s at ≡ end
-  listed-end h = chain-end (recordAt shape order s) (λ r. r .next) (length s) at h
+  listed-end h = linked-end (recordAt shape order s) (λ r. r .next) (length s) at h
 
 module _ (shape : ListShape) (order : Order) (s : List ℕ) (at : ℕ) (inside : at < length s) where
   onward : (at : ℕ) (r : Record) → at < length s → recordAt shape order s at ≡ fine r → at < r .next
@@ -67,10 +66,10 @@ module _ (shape : ListShape) (order : Order) (s : List ℕ) (at : ℕ) (inside :
 
   pub listed-more : (r : Record) → recordAt shape order s at ≡ fine r
       → listed shape order s at ≡ more r (listed shape order s (r .next))
-  listed-more r read = chain-more (recordAt shape order s) (λ r. r .next) (length s) onward at r inside read
+  listed-more r read = linked-more (recordAt shape order s) (λ r. r .next) (length s) onward at r inside read
 
   pub listed-stop : (e : Refusal) → recordAt shape order s at ≡ stop e → listed shape order s at ≡ broken e
-  listed-stop e read = chain-stop (recordAt shape order s) (λ r. r .next) (length s) onward at e inside read
+  listed-stop e read = linked-stop (recordAt shape order s) (λ r. r .next) (length s) onward at e inside read
 
 module _ (order : Order) (s : List ℕ) (left at : ℕ) where
   pub vernauxs-end : left ≤ 0 → vernauxs order s left at ≡ end

@@ -4,7 +4,7 @@
 use mathlib.Core.Path.{_≡_, ap}
 use Rattle.version_records.specs.Outcome.{Outcome}
 use Rattle.version_records.specs.Outcome.Outcome.{fine, stop}
-use Rattle.version_records.specs.Records.{recordStep, recordOutcome, auxStep, auxOutcome}
+use Rattle.version_records.specs.RecordAnswers.{recordStep, recordOutcome, auxStep, auxOutcome}
 use Rattle.version_layout.specs.declared.steps.Record.{Record}
 use Rattle.version_layout.specs.declared.steps.RecordStep.{RecordStep}
 use Rattle.version_layout.specs.declared.steps.Aux.{Aux}

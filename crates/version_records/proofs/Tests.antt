@@ -9,8 +9,8 @@ use lib.ListN.{length}
 use borrow.Author.Tests.{lt-ltb, le-ltb}
 use Rattle.endian.specs.declared.kinds.Order.{Order}
 use Rattle.endian.specs.Word.{fieldAt}
-use Rattle.version_layout.specs.Layouts.{field}
-use Rattle.version_records.specs.Records.{placeAfter, recordAt, recordStep, auxAt, auxStep}
+use Rattle.version_records.specs.Records.{placeAfter, recordAt, auxAt}
+use Rattle.version_records.specs.RecordAnswers.{recordStep, auxStep}
 use Rattle.version_records.specs.declared.records.ListShape.{ListShape}
 use Rattle.version_records.specs.declared.records.ChainShape.{ChainShape}
 use Rattle.version_layout.specs.declared.steps.RecordStep.{RecordStep}
@@ -22,13 +22,13 @@ module _ (shape : ListShape) (order : Order) (s : List ℕ) (at : ℕ) where
   unfolding recordAt
   record-short h = rw (lt-ltb _ _ h)
 
-  module _ (long : shape .size ≤ length s - at) (aux : ℕ) (a : aux ≡ fieldAt order s at (field (shape .aux) 4)) where
+  module _ (long : shape .size ≤ length s - at) (aux : ℕ) (a : aux ≡ fieldAt order s at 4 (shape .aux)) where
     pub record-bad-aux : length s - at < aux
         → RecordStep.Refused (shape .«bad_aux») ≡ recordStep (recordAt shape order s at)
     unfolding recordAt
     record-bad-aux h = rw (le-ltb _ _ long, ← a, lt-ltb _ _ h)
 
-    module _ (chained : aux ≤ length s - at) (next : ℕ) (n : next ≡ fieldAt order s at (field (shape .next) 4)) where
+    module _ (chained : aux ≤ length s - at) (next : ℕ) (n : next ≡ fieldAt order s at 4 (shape .next)) where
       pub record-bad-next : length s - at < next
           → RecordStep.Refused (shape .«bad_next») ≡ recordStep (recordAt shape order s at)
       unfolding recordAt
@@ -44,7 +44,7 @@ module _ (shape : ChainShape) (order : Order) (s : List ℕ) (at : ℕ) where
   unfolding auxAt
   aux-short h = rw (lt-ltb _ _ h)
 
-  module _ (long : shape .size ≤ length s - at) (next : ℕ) (n : next ≡ fieldAt order s at (field (shape .next) 4)) where
+  module _ (long : shape .size ≤ length s - at) (next : ℕ) (n : next ≡ fieldAt order s at 4 (shape .next)) where
     pub aux-bad-next : length s - at < next
         → AuxStep.Refused (shape .«bad_next») ≡ auxStep (auxAt shape order s at)
     unfolding auxAt

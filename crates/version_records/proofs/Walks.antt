@@ -1,6 +1,6 @@
 -- How a walk goes on, without its fuel, and what a loop over it makes of it.
 --     Onward                                    each record that can be read lies before the next
---     chain-end, chain-more, chain-stop         at the end of the bytes; at a record; at a refusal
+--     linked-end, linked-more, linked-stop      at the end of the bytes; at a record; at a refusal
 --     counted-end, counted-more, counted-stop   the same of a counted chain
 --     collect-end, collect-broken               the ways out of a loop over a walk: at the end; by a record that is refused
 --     collect-turn, collect-leave               one turn of it; the way out by what a record gives
@@ -18,7 +18,7 @@ use borrow.Author.Tests.{lt-ltb, le-ltb, ltb-true}
 use Rattle.endian.specs.declared.refusals.Refusal.{Refusal}
 use Rattle.version_records.specs.Outcome.{Outcome, folded}
 use Rattle.version_records.specs.Outcome.Outcome.{fine, stop}
-use Rattle.version_records.specs.Walk.{Walk, link, chainFuel, chain, counted, collect}
+use Rattle.version_records.specs.Walk.{Walk, link, linkedWithin, linked, counted, collect}
 use Rattle.version_records.specs.Walk.Walk.{end, broken, more}
 use Rattle.version_records.proofs.Outcomes.{both-go, both-leave}
 
@@ -34,13 +34,13 @@ abbrev pub Onward : {A : Type 0} → (ℕ → Outcome A) → (A → ℕ) → (n 
 Onward {A} step next n = (at : ℕ) (a : A) → at < n → step at ≡ fine a → at < next a
 
 module _ {A : Type 0} (step : ℕ → Outcome A) (next : A → ℕ) (n : ℕ) where
-  fuel-end : (k at : ℕ) → n ≤ at → chainFuel step next n k at ≡ end
+  fuel-end : (k at : ℕ) → n ≤ at → linkedWithin step next n k at ≡ end
   fuel-end zero at h = refl
   fuel-end (suc k) at h = rw (le-ltb at n h)
 
   -- any two amounts of fuel that suffice give the same walk
   enough : Onward step next n → (k j at : ℕ) → n - at ≤ k → n - at ≤ j
-      → chainFuel step next n k at ≡ chainFuel step next n j at
+      → linkedWithin step next n k at ≡ linkedWithin step next n j at
   enough onward zero j at hk hj = sym (fuel-end j at (omega arith))
   enough onward (suc k) zero at hk hj = fuel-end (suc k) at (omega arith)
   enough onward (suc k) (suc j) at hk hj =
@@ -50,26 +50,26 @@ module _ {A : Type 0} (step : ℕ → Outcome A) (next : A → ℕ) (n : ℕ) wh
       let past : at < next a = onward at a here e in
       enough onward k j (next a) (omega arith) (omega arith)))
 
-  pub chain-end : (at : ℕ) → n ≤ at → chain step next n at ≡ end
-  unfolding chain
-  chain-end at h = fuel-end (n - at) at h
+  pub linked-end : (at : ℕ) → n ≤ at → linked step next n at ≡ end
+  unfolding linked
+  linked-end at h = fuel-end (n - at) at h
 
-  chain-link : Onward step next n → (at : ℕ) → at < n
-      → chain step next n at ≡ link (step at) (λ a. chain step next n (next a))
-  unfolding chain
-  chain-link onward at h =
+  linked-link : Onward step next n → (at : ℕ) → at < n
+      → linked step next n at ≡ link (step at) (λ a. linked step next n (next a))
+  unfolding linked
+  linked-link onward at h =
       enough onward (n - at) (suc (n - at)) at (omega arith) (omega arith)
       ∙ rw (lt-ltb at n h) (link-same (step at) _ _ (λ a e.
       let past : at < next a = onward at a h e in
       enough onward (n - at) (n - next a) (next a) (omega arith) (omega arith)))
 
-  pub chain-more : Onward step next n → (at : ℕ) (a : A) → at < n → step at ≡ fine a
-      → chain step next n at ≡ more a (chain step next n (next a))
-  chain-more onward at a h e = chain-link onward at h ∙ ap (λ (o : Outcome A). link o (λ a. chain step next n (next a))) e
+  pub linked-more : Onward step next n → (at : ℕ) (a : A) → at < n → step at ≡ fine a
+      → linked step next n at ≡ more a (linked step next n (next a))
+  linked-more onward at a h e = linked-link onward at h ∙ ap (λ (o : Outcome A). link o (λ a. linked step next n (next a))) e
 
-  pub chain-stop : Onward step next n → (at : ℕ) (e : Refusal) → at < n → step at ≡ stop e
-      → chain step next n at ≡ broken e
-  chain-stop onward at e h s = chain-link onward at h ∙ ap (λ (o : Outcome A). link o (λ a. chain step next n (next a))) s
+  pub linked-stop : Onward step next n → (at : ℕ) (e : Refusal) → at < n → step at ≡ stop e
+      → linked step next n at ≡ broken e
+  linked-stop onward at e h s = linked-link onward at h ∙ ap (λ (o : Outcome A). link o (λ a. linked step next n (next a))) s
 
 module _ {A : Type 0} (step : ℕ → Outcome A) (next : A → ℕ) where
   counted-link : (left at : ℕ) → 0 < left

@@ -1,3 +1,4 @@
 pub mod Outcome
+pub mod RecordAnswers
 pub mod Records
 pub mod Walk

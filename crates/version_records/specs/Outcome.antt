@@ -19,5 +19,4 @@ abbrev pub both : {A : Type 0} → Outcome (List A) → Outcome (List A) → Out
 both p q = bind p (λ xs. bind q (λ ys. fine (xs ++ ys)))
 
 abbrev pub folded : {A B : Type 0} → (B → A → B) → B → Outcome (List A) → Outcome B
-folded f b (fine xs) = fine (foldl f b xs)
-folded f b (stop e) = stop e
+folded f b outcome = bind outcome (λ xs. fine (foldl f b xs))

@@ -1,7 +1,7 @@
 -- The records of a list, one after the other.
 --     Walk       the records met, then the end or the refusal of the record that cannot be read
 --     link       a record that was read, and the rest from it on
---     chain      the records from a place, each where the one before says, up to the end of n bytes
+--     linked     the records from a place, each where the one before says, up to the end of n bytes
 --     counted    as many records as the count says, each where the one before says
 --     collect    what the records of a walk give, in its order; the first refusal leaves at once
 -- Assumes nothing.
@@ -22,14 +22,14 @@ abbrev pub link : {A : Type 0} → Outcome A → (A → Walk A) → Walk A
 link (fine a) rest = more a (rest a)
 link (stop e) rest = broken e
 
--- at most `fuel` records
-abbrev pub chainFuel : {A : Type 0} → (ℕ → Outcome A) → (A → ℕ) → (n fuel at : ℕ) → Walk A
-chainFuel step next n zero at = end
-chainFuel step next n (suc fuel) at = cond (ltb at n) (link (step at) (λ a. chainFuel step next n fuel (next a))) end
+-- at most `most` records
+abbrev pub linkedWithin : {A : Type 0} → (ℕ → Outcome A) → (A → ℕ) → (n most at : ℕ) → Walk A
+linkedWithin step next n zero at = end
+linkedWithin step next n (suc most) at = cond (ltb at n) (link (step at) (λ a. linkedWithin step next n most (next a))) end
 
 -- each record lies past the one before, so that there are no more than n - at
-unfoldable pub chain : {A : Type 0} → (ℕ → Outcome A) → (A → ℕ) → (n at : ℕ) → Walk A
-chain step next n at = chainFuel step next n (n - at) at
+unfoldable pub linked : {A : Type 0} → (ℕ → Outcome A) → (A → ℕ) → (n at : ℕ) → Walk A
+linked step next n at = linkedWithin step next n (n - at) at
 
 abbrev pub counted : {A : Type 0} → (ℕ → Outcome A) → (A → ℕ) → (count at : ℕ) → Walk A
 counted step next zero at = end

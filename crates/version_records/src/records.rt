@@ -19,7 +19,8 @@ use version_layout::steps::RecordStep;
 use word::u32_at;
 ghost use mathlib.Core.Path.{_≡_};
 ghost use Prim.Native.Nat.{_+_, _≤_, _<_};
-ghost use Rattle.version_records.specs.Records.{verdefShape, verneedShape, verdauxShape, vernauxShape, placeAfter, recordAt, recordStep, auxAt, auxStep};
+ghost use Rattle.version_records.specs.Records.{verdefShape, verneedShape, verdauxShape, vernauxShape, placeAfter, recordAt, auxAt};
+ghost use Rattle.version_records.specs.RecordAnswers.{recordStep, auxStep};
 
 // What a record of a list is tested for: its size, where its aux and its next stand, and the
 // refusals, in the order of the tests.
@@ -81,7 +82,7 @@ fn place_after(count: usize, at: usize, next: usize) -> usize
 }
 
 // The record of a list at a place. Refused in this order: it is short, as it is past the end; its
-// aux or its next lies past the end.
+// aux, then its next, lies past the end.
 fn record_at(shape: ListShape, order: Order, s: &[u8], at: usize) -> RecordStep
     requires { ⌜ (0 < shape .size) × (shape .aux ≤ shape .size) × (shape .next ≤ shape .size) ⌝ }
     ensures { λ r. ⌜ r ≡ recordStep (recordAt shape order (now (s .entry)) at) ⌝ }

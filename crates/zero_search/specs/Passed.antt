@@ -1,4 +1,4 @@
--- What a search for a zero byte has passed. Assumes nothing.
+-- Need not be believed: what a search for a zero byte has passed. Inner contracts cite it. Assumes nothing.
 use Prim.Native.Nat.{ℕ, _≤_, _-_, _+_}
 use mathlib.Core.Path.{_≡_}
 use mathlib.Core.List.{List}

@@ -1,4 +1,4 @@
--- Where the first zero byte from a place on stands. Assumes nothing.
+-- Need not be believed: where the first zero byte from a place on stands. An inner contract cites it. Assumes nothing.
 use Prim.Native.Nat.{ℕ, _+_}
 use mathlib.Core.List.{List}
 use lib.ListN.{drop}

@@ -3,8 +3,8 @@ use Prim.Native.Nat.{ℕ}
 use mathlib.Core.Path.{sym, ap, _∙_}
 use mathlib.Core.List.{List}
 use lib.ListN.{length, getD}
-use Rattle.strings.specs.Strings.{same}
-use Rattle.note_name.specs.Trim.{Part}
+use Rattle.endian.specs.First.{same}
+use Rattle.note_name.specs.LentPart.{Part}
 use Rattle.note_properties.specs.Properties.{gnu, isGnu}
 use Rattle.note_properties.proofs.GnuName.{same-not, gnu-last}
 use borrow.Author.Needs.{needs}

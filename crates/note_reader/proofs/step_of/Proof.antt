@@ -1,7 +1,7 @@
 -- `note_reader::step_of` meets its contract: the reader is the one of the step's own answer. Assumes nothing.
 use mathlib.Core.Path.{ap}
 use borrow.Author.Needs.{needs}
-use Rattle.note_reader.specs.Held.{moved}
+use Rattle.note_reader.specs.Moved.{moved}
 use Rattle.note_reader.proofs.step_of.Statement.{statement}
 use Rattle.note_reader.proofs.step_of.Tie as tie
 

@@ -6,7 +6,7 @@ use native.Mathlib.Omega.{arith}
 use native.Mathlib.Nat.{le-refl}
 use lib.ListN.{length, take}
 use borrow.Author.Needs.{needs}
-use Rattle.strings.specs.Strings.{afterZero}
+use Rattle.strings.specs.AfterZero.{afterZero}
 use Rattle.strings.proofs.Readable.{after-here, after-next, after-whole}
 use Rattle.strings.proofs.after_last_zero.Statement.{statement}
 use Rattle.strings.proofs.after_last_zero.Tie as tie

@@ -5,8 +5,7 @@ use native.Mathlib.Omega.{arith}
 use lib.ListN.{drop}
 use borrow.Author.Needs.{needs}
 use borrow.Author.Tests.{lt-ltb, le-ltb}
-use Rattle.endian.specs.First.{first}
-use Rattle.strings.specs.Strings.{isZero}
+use Rattle.endian.specs.First.{first, isZero}
 use Rattle.strings.proofs.Readable.{readable-true, readable-false}
 use Rattle.strings.proofs.string_at.Statement.{statement}
 use Rattle.strings.proofs.string_at.Tie as tie

@@ -1,10 +1,9 @@
 -- `symbol_definition::is_definition` meets its contract. Each answer is the one that its tests pick. Assumes nothing.
-use mathlib.Core.Path.{_≡_, sym, ap, _∙_}
-use mathlib.Core.Bool.{Bool, true, false, not, cond}
+use mathlib.Core.Path.{_≡_, sym, _∙_}
+use mathlib.Core.Bool.{true, false, not, cond}
 use lib.Dec.{eqb}
 use borrow.Author.Needs.{needs}
 use borrow.Author.Tests.{lt-ltb, le-ltb, eq-eqb, ne-eqb}
-use Rattle.symbol_definition.specs.declared.Definition.{Definition}
 use Rattle.symbol_definition.specs.declared.Definition.the-variants.{Is}
 use Rattle.symbol_entry.specs.Entry.{isLocal}
 use Rattle.symbol_definition.specs.Definition.{definition, startsWithDollar}

@@ -1,5 +1,5 @@
 -- `symbol_definition::starts_with_dollar` meets its contract. Each arm is told what `string_at` answered. Assumes nothing.
-use mathlib.Core.Path.{_≡_, sym, ap, _∙_}
+use mathlib.Core.Path.{sym, ap, _∙_}
 use borrow.Author.Needs.{needs}
 use borrow.Author.Tests.{eq-eqb, ne-eqb}
 use Rattle.symbol_definition.specs.Definition.{dollar, startsWithDollar}

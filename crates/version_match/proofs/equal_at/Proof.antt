@@ -5,7 +5,7 @@ use mathlib.Core.Path.{_≡_, sym, _∙_}
 use native.Mathlib.Omega.{arith}
 use native.Mathlib.Nat.{add-zero}
 use lib.ListN.{length, take, drop}
-use Rattle.strings.specs.Strings.{same}
+use Rattle.endian.specs.First.{same}
 use Rattle.version_match.proofs.Compared.{same-step, same-stop, same-end}
 use borrow.Author.Needs.{needs}
 use Rattle.version_match.proofs.equal_at.Statement.{statement}

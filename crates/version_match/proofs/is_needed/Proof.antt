@@ -4,7 +4,7 @@ use Prim.Native.Nat.{_+_, _≤_}
 use mathlib.Core.Path.{sym, _∙_}
 use native.Mathlib.Omega.{arith}
 use lib.ListN.{length}
-use Rattle.version_match.specs.Match.{nameOf}
+use Rattle.version_match.specs.Match.{versionName}
 use Rattle.version_match.proofs.Compared.{part-length, same-apart}
 use borrow.Author.Needs.{needs}
 use Rattle.version_match.proofs.is_needed.Statement.{statement}
@@ -23,7 +23,7 @@ returns-2 c =
     let v = args .version in
     let fits : v .name .start + v .name .len ≤ length (args .strings .now) = leb-true _ _ (start .pre) in
     let whole = part-length (args .strings .now) (v .name .start) (v .name .len) fits in
-    let apart = same-apart (nameOf (args .strings .now) v) (args .name .now) (λ e. c .if2 .taken (sym whole ∙ e)) in
+    let apart = same-apart (versionName (args .strings .now) v) (args .name .now) (λ e. c .if2 .taken (sym whole ∙ e)) in
     simp (eq-eqb _ _ (c .before .before .if1 .left), apart)
 
 cast-equal-at : tie.Need-cast-equal-at

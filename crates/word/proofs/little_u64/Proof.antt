@@ -1,7 +1,6 @@
 -- `word::little_u64` meets its contract. Past the end: `word-past`. All bytes there: `inside_u64`. Else the tail. Assumes nothing.
 use borrow.Author.Needs.{needs}
 use mathlib.Core.Path.{sym}
-use native.Mathlib.Omega.{arith}
 use Rattle.endian.specs.declared.kinds.Order.the-variants.{Little}
 use Rattle.endian.proofs.Word.{word-past}
 use Rattle.word.proofs.little_u64.Statement.{statement}

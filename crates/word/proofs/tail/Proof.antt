@@ -1,6 +1,6 @@
 -- `word::tail` meets its contract. The invariant: v is the word from k on, of as many of the 8 bytes as stand there or past the end.
 -- The measure is what is left down to the place. Assumes nothing.
-use Prim.Native.Nat.{ℕ, _+_, _*_, _-_, _^_, _≤_, _<_}
+use Prim.Native.Nat.{_+_, _*_, _-_, _^_, _≤_, _<_}
 use mathlib.Core.Path.{_≡_, sym}
 use native.Mathlib.Omega.{arith}
 use borrow.Author.Needs.{needs}

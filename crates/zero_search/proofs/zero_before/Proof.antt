@@ -1,5 +1,5 @@
 -- `zero_search::zero_before` meets its contract. No zero stands up to i; what is left before the end falls. Assumes nothing.
-use Prim.Native.Nat.{_≤_, _<_, _-_}
+use Prim.Native.Nat.{_≤_, _-_}
 use native.Mathlib.Omega.{arith}
 use borrow.Author.Needs.{needs}
 use Rattle.zero_search.specs.Passed.{Passed}

@@ -41,7 +41,7 @@ use denote.Triple.Walked.{says, Stays, stay-none, walkOf, goes-none, Walks, ends
 use denote.Exit.{yes}
 use denote.Triple.Clauses.{ensured, lasts}
 use Rattle.note.specs.Notes.{noteStep}
-use Rattle.note_reader.specs.Held.{moved}
+use Rattle.note_reader.specs.Moved.{moved}
 use Rattle.note_reader.specs.declared.Moved.{Moved}
 use Rattle.note_reader.specs.declared.Notes.{Notes}
 use Rattle.note.proofs.reader.NoteReader as N

@@ -2,7 +2,7 @@
 use mathlib.Core.Path.{_≡_, sym, ap, _∙_}
 use Rattle.endian.specs.Refusals.{tooLong, badProperty}
 use Rattle.property_reader.specs.declared.PropertyStep.the-variants.{Refused}
-use Rattle.property_reader.specs.Reader.{nextFrom}
+use Rattle.property_reader.specs.Reader.{propertyNext}
 use Rattle.property_reader.proofs.Steps.{kind-read, step-long, step-end, step-short, step-refused, step-property}
 use borrow.Author.Needs.{needs}
 use Rattle.property_reader.proofs.PropertyReader.step.Statement.{statement}
@@ -52,7 +52,7 @@ returns-4 c =
     let next = c .before .before in
     let inside = next .before .before .before in
     let args = inside .before .before .before .args in
-    let from : next .padded .result ≡ nextFrom (args .self) (args .bytes .now) =
+    let from : next .padded .result ≡ propertyNext (args .self) (args .bytes .now) =
     rw (next .padded .ensures .0, next .before .u32-at .ensures) in
     ap (Refused badProperty) (c .moved3 .ensures) ∙
     sym (step-refused _ _ (inside .before .if1 .left) (inside .if2 .left) (rw from at (c .before .if4 .taken)))
@@ -75,7 +75,7 @@ returns-5 c =
     let sized = next .before in
     let inside = sized .before .before in
     let args = inside .before .before .before .args in
-    let from : next .padded .result ≡ nextFrom (args .self) (args .bytes .now) =
+    let from : next .padded .result ≡ propertyNext (args .self) (args .bytes .now) =
     rw (next .padded .ensures .0, next .before .u32-at .ensures) in
     let read = c .before .u32-at2 .ensures ∙ kind-read (args .self) (args .bytes .now) in
     rw (step-property (args .self) (args .bytes .now) (inside .before .if1 .left) (inside .if2 .left)

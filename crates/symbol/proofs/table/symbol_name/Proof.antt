@@ -1,5 +1,5 @@
 -- `symbol::table::symbol_name` meets its contract. Each arm is told what `symbol_at` answered. Assumes nothing.
-use mathlib.Core.Path.{_≡_, sym, ap, _∙_}
+use mathlib.Core.Path.{sym, ap, _∙_}
 use borrow.Author.Needs.{needs}
 use Rattle.symbol.specs.Table.{nameIn}
 use Rattle.symbol.proofs.Names.{symbolName-long, symbolName-fits}

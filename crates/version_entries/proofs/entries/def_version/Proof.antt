@@ -5,13 +5,15 @@ use mathlib.Core.List.{List}
 use native.Mathlib.Nat.{add-zero}
 use Rattle.endian.specs.declared.kinds.Order.{Order}
 use Rattle.endian.specs.Refusals.{badVerdauxName}
-use Rattle.endian.specs.Word.{wordAt, fieldAt}
-use Rattle.version_layout.specs.Layouts.{verdaux}
+use Rattle.endian.specs.Word.{wordAt}
+use Rattle.version_layout.specs.Layouts.{fieldOf, verdaux}
 use Rattle.version_layout.specs.Steps.{auxRefusal}
 use Rattle.version_records.specs.Outcome.Outcome.{fine, stop}
-use Rattle.version_records.specs.Records.{verdauxShape, auxAt, auxOutcome}
+use Rattle.version_records.specs.Records.{verdauxShape, auxAt}
+use Rattle.version_records.specs.RecordAnswers.{auxOutcome}
 use Rattle.version.specs.Store.{noFile}
-use Rattle.version_entries.specs.Entries.{defVersion, partAt, partOutcome}
+use Rattle.version_entries.specs.Entries.{defVersion, partAt}
+use Rattle.version_entries.specs.EntryAnswers.{partOutcome}
 use Rattle.version_layout.specs.declared.steps.Aux.{Aux}
 use Rattle.version.specs.declared.store.Version.{Version}
 use Rattle.version_records.proofs.Outcomes.{bind-fine, bind-stop}
@@ -41,7 +43,7 @@ module _ (k : tie.After-part-at) where
   aux-read : auxAt verdauxShape order s (start .args .def .aux) ≡ fine a
   aux-read = sym (aux-says _ _ (read .before .before .verdaux-at .ensures)) ∙ ap auxOutcome (read .step .given .1)
 
-  name-read : partAt badVerdauxName (start .args .strings .now) (fieldAt order s (a .at) (verdaux .name))
+  name-read : partAt badVerdauxName (start .args .strings .now) (fieldOf order s (a .at) (verdaux .name))
       ≡ partOutcome (k .part-at .result)
   name-read =
       ap (partAt badVerdauxName (start .args .strings .now))

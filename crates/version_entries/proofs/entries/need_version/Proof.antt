@@ -5,10 +5,11 @@ use mathlib.Core.List.{List}
 use native.Mathlib.Nat.{add-zero}
 use Rattle.endian.specs.declared.kinds.Order.{Order}
 use Rattle.endian.specs.Refusals.{badVernauxName}
-use Rattle.endian.specs.Word.{wordAt, fieldAt}
-use Rattle.version_layout.specs.Layouts.{vernaux}
+use Rattle.endian.specs.Word.{wordAt}
+use Rattle.version_layout.specs.Layouts.{fieldOf, vernaux}
 use Rattle.version_records.specs.Outcome.Outcome.{fine}
-use Rattle.version_entries.specs.Entries.{needVersion, partAt, partOutcome}
+use Rattle.version_entries.specs.Entries.{needVersion, partAt}
+use Rattle.version_entries.specs.EntryAnswers.{partOutcome}
 use Rattle.version_layout.specs.declared.steps.Aux.{Aux}
 use Rattle.version.specs.declared.store.Version.{Version}
 use Rattle.version_records.proofs.Outcomes.{bind-fine, bind-stop}
@@ -31,7 +32,7 @@ module _ (k : tie.After-part-at) where
   abbrev a : Aux
   a = start .args .aux
 
-  name-read : partAt badVernauxName (start .args .strings .now) (fieldAt order s (a .at) (vernaux .name))
+  name-read : partAt badVernauxName (start .args .strings .now) (fieldOf order s (a .at) (vernaux .name))
       ≡ partOutcome (k .part-at .result)
   name-read =
       ap (partAt badVernauxName (start .args .strings .now)) (sym (k .before .u32-at .ensures)) ∙ sym

@@ -4,7 +4,8 @@ use mathlib.Core.Path.{sym, ap, _∙_}
 use Rattle.version_records.specs.Outcome.{Outcome}
 use Rattle.version_records.specs.Walk.{collect}
 use Rattle.version_records.specs.Records.{verdefs, verneeds}
-use Rattle.version_highest.specs.Highest.{defIndices, needIndices, higherOf, highOutcome}
+use Rattle.version_highest.specs.Highest.{defIndices, needIndices, higherOf}
+use Rattle.version_highest.specs.HighestAnswers.{highOutcome}
 use Rattle.version.specs.declared.index.VersionIndex.{VersionIndex}
 use Rattle.version_records.proofs.Outcomes.{both-go, both-leave}
 use Rattle.version_highest.proofs.Highs.{high-answered}

@@ -10,7 +10,8 @@ use Rattle.version_records.specs.Outcome.{folded}
 use Rattle.version_records.specs.Outcome.Outcome.{fine, stop}
 use Rattle.version_records.specs.Walk.{collect}
 use Rattle.version_records.specs.Walk.Walk.{more}
-use Rattle.version_records.specs.Records.{auxOutcome, auxAt, vernauxShape, vernauxs}
+use Rattle.version_records.specs.Records.{auxAt, vernauxShape, vernauxs}
+use Rattle.version_records.specs.RecordAnswers.{auxOutcome}
 use Rattle.version_highest.specs.Highest.{auxIndices, needIndices, higherOf}
 use Rattle.version_layout.specs.declared.steps.Aux.{Aux}
 use Rattle.version_records.proofs.Walks.{collect-end, collect-broken, collect-turn, counted-repeat}

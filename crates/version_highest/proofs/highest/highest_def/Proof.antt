@@ -11,7 +11,8 @@ use Rattle.version_records.specs.Outcome.{folded}
 use Rattle.version_records.specs.Outcome.Outcome.{fine, stop}
 use Rattle.version_records.specs.Walk.{collect}
 use Rattle.version_records.specs.Walk.Walk.{more}
-use Rattle.version_records.specs.Records.{recordOutcome, recordAt, verdefShape, verdefs}
+use Rattle.version_records.specs.Records.{recordAt, verdefShape, verdefs}
+use Rattle.version_records.specs.RecordAnswers.{recordOutcome}
 use Rattle.version_highest.specs.Highest.{defIndices, higherOf}
 use Rattle.version_layout.specs.declared.steps.Record.{Record}
 use Rattle.version_records.proofs.Walks.{collect-end, collect-broken, collect-turn}

@@ -11,8 +11,10 @@ use Rattle.version_records.specs.Outcome.{folded}
 use Rattle.version_records.specs.Outcome.Outcome.{fine, stop}
 use Rattle.version_records.specs.Walk.{collect}
 use Rattle.version_records.specs.Walk.Walk.{more}
-use Rattle.version_records.specs.Records.{recordOutcome, recordAt, verneedShape, verneeds}
-use Rattle.version_highest.specs.Highest.{needIndices, higherOf, highOutcome}
+use Rattle.version_records.specs.Records.{recordAt, verneedShape, verneeds}
+use Rattle.version_records.specs.RecordAnswers.{recordOutcome}
+use Rattle.version_highest.specs.Highest.{needIndices, higherOf}
+use Rattle.version_highest.specs.HighestAnswers.{highOutcome}
 use Rattle.version_layout.specs.declared.steps.Record.{Record}
 use Rattle.version_records.proofs.Walks.{collect-end, collect-broken, collect-turn, collect-leave}
 use Rattle.version_records.proofs.Steps.{record-says}

@@ -14,11 +14,13 @@ use Rattle.version_records.specs.Walk.Walk.{more}
 use Rattle.version.specs.Store.{putEntry}
 use Rattle.version_parse.specs.declared.fill.Filled.{Filled}
 use Rattle.version.specs.Index.{isSpecial}
-use Rattle.version_records.specs.Records.{auxOutcome, auxAt, vernauxShape, vernauxs, needCount}
+use Rattle.version_records.specs.Records.{auxAt, vernauxShape, vernauxs, needCount}
+use Rattle.version_records.specs.RecordAnswers.{auxOutcome}
 use Rattle.version_layout.specs.Indices.{needIndex}
 use Rattle.version_layout.specs.Steps.{auxRefusal}
 use Rattle.version_entries.specs.Entries.{needVersion, auxEntries}
-use Rattle.version_parse.specs.Entries.{needEntries, filledOutcome}
+use Rattle.version_parse.specs.SecondPass.{needEntries}
+use Rattle.version_parse.specs.ParseAnswers.{filledOutcome}
 use Rattle.version_parse.specs.Room.{All, AuxRoom}
 use Rattle.version_layout.specs.declared.steps.Aux.{Aux}
 use Rattle.version_records.proofs.Walks.{collect-end, collect-broken, collect-turn, collect-leave, counted-repeat}

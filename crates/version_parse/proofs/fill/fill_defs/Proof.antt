@@ -7,17 +7,18 @@ use mathlib.Core.List.{List}
 use native.Mathlib.Omega.{arith}
 use lib.ListN.{length}
 use Rattle.endian.specs.declared.kinds.Order.{Order}
-use Rattle.version_layout.specs.Steps.{recordRefusal, isBase}
-use Rattle.version_layout.specs.Indices.{defIndex}
+use Rattle.version_layout.specs.Steps.{recordRefusal}
+use Rattle.version_layout.specs.Indices.{defIndex, isBase}
 use Rattle.version_records.specs.Outcome.{folded}
 use Rattle.version_records.specs.Outcome.Outcome.{fine, stop}
 use Rattle.version_records.specs.Walk.{collect}
 use Rattle.version_records.specs.Walk.Walk.{more}
 use Rattle.version.specs.Store.{putEntry}
 use Rattle.version_parse.specs.declared.fill.Filled.{Filled}
-use Rattle.version_records.specs.Records.{recordOutcome, recordAt, verdefShape, verdefs}
+use Rattle.version_records.specs.Records.{recordAt, verdefShape, verdefs}
+use Rattle.version_records.specs.RecordAnswers.{recordOutcome}
 use Rattle.version_entries.specs.Entries.{passedOver, defVersion, defEntries}
-use Rattle.version_parse.specs.Entries.{filledOutcome}
+use Rattle.version_parse.specs.ParseAnswers.{filledOutcome}
 use Rattle.version_parse.specs.Room.{All, DefRoom}
 use Rattle.version_layout.specs.declared.steps.Record.{Record}
 use Rattle.version_records.proofs.Walks.{collect-end, collect-broken, collect-turn, collect-leave}
@@ -26,7 +27,6 @@ use Rattle.version_records.proofs.Bounds.{record-onward, listed-end, listed-mor
 use Rattle.version_parse.proofs.Rooms.{all-first, all-rest, entry-room}
 use Rattle.version_entries.proofs.Entered.{entry-says}
 use Rattle.version_parse.proofs.Again.{or-left}
-use borrow.Author.Needs.{needs}
 use Rattle.version_parse.proofs.fill.fill_defs.Statement.{statement}
 use Rattle.version_parse.proofs.fill.fill_defs.Tie as tie
 

@@ -14,8 +14,10 @@ use Rattle.version_records.specs.Walk.{collect}
 use Rattle.version_records.specs.Walk.Walk.{more}
 use Rattle.version.specs.Store.{putEntry}
 use Rattle.version_parse.specs.declared.fill.Filled.{Filled}
-use Rattle.version_records.specs.Records.{recordOutcome, recordAt, verneedShape, verneeds}
-use Rattle.version_parse.specs.Entries.{needEntries, filledOutcome}
+use Rattle.version_records.specs.Records.{recordAt, verneedShape, verneeds}
+use Rattle.version_records.specs.RecordAnswers.{recordOutcome}
+use Rattle.version_parse.specs.SecondPass.{needEntries}
+use Rattle.version_parse.specs.ParseAnswers.{filledOutcome}
 use Rattle.version_parse.specs.Room.{All, NeedRoom}
 use Rattle.version_layout.specs.declared.steps.Record.{Record}
 use Rattle.version_records.proofs.Walks.{collect-end, collect-broken, collect-turn, collect-leave}

@@ -3,7 +3,7 @@ use mathlib.Core.Path.{sym, ap, _∙_}
 use Rattle.version_records.specs.Outcome.{folded}
 use Rattle.version_records.specs.Outcome.Outcome.{fine}
 use Rattle.version.specs.Store.{putEntry}
-use Rattle.version_entries.specs.Entries.{entryOutcome}
+use Rattle.version_entries.specs.EntryAnswers.{entryOutcome}
 use Rattle.version_entries.specs.declared.entries.EntryStep.{EntryStep}
 use Rattle.version_parse.proofs.Rooms.{entry-fits}
 use borrow.Author.Needs.{needs}

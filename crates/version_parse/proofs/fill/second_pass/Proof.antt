@@ -6,7 +6,8 @@ use Rattle.version_records.specs.Walk.{collect}
 use Rattle.version_records.specs.Records.{verdefs, verneeds}
 use Rattle.version.specs.Store.{Stored, putEntry}
 use Rattle.version_entries.specs.Entries.{defEntries}
-use Rattle.version_parse.specs.Entries.{needEntries, filledOutcome}
+use Rattle.version_parse.specs.SecondPass.{needEntries}
+use Rattle.version_parse.specs.ParseAnswers.{filledOutcome}
 use Rattle.version_parse.specs.declared.fill.Filled.{Filled}
 use Rattle.version_records.proofs.Outcomes.{both-go, both-leave}
 use Rattle.version_parse.proofs.fill.second_pass.Statement.{statement}

@@ -8,8 +8,9 @@ use Rattle.endian.specs.declared.kinds.Order.{Order}
 use Rattle.endian.specs.Refusals.{anyLong}
 use Rattle.version.specs.declared.index.VersionIndex.{VersionIndex}
 use Rattle.version_records.specs.Outcome.Outcome.{fine, stop}
-use Rattle.version_highest.specs.Highest.{highest, highOutcome, highRefusal}
-use Rattle.version_parse.specs.Entries.{filledOutcome}
+use Rattle.version_highest.specs.Highest.{highestIndex}
+use Rattle.version_highest.specs.HighestAnswers.{highOutcome, highRefusal}
+use Rattle.version_parse.specs.ParseAnswers.{filledOutcome}
 use Rattle.version_parse.specs.declared.fill.Filled.{Filled}
 use Rattle.version_parse.proofs.Parses.{parsed-long, parsed-first, parsed-small, parsed-second, parsed-done}
 use Rattle.version_parse.proofs.Rooms.{highest-room}
@@ -44,7 +45,7 @@ module _ (k : tie.After-first) where
   abbrev high : VersionIndex
   high = k .first .given .0 .0
 
-  read : highest order verdef verneed ≡ fine high
+  read : highestIndex order verdef verneed ≡ fine high
   read = sym (high-says _ _ (k .before .before .first-pass .ensures)) ∙ ap highOutcome (k .first .given .1)
 
 any-long-requires : tie.Need-any-long-requires

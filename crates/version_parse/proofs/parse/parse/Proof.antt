@@ -2,7 +2,8 @@
 use Prim.Native.Nat.{ℕ}
 use mathlib.Core.Path.{_≡_, sym, ap, _∙_}
 use lib.ListN.{length, replicate}
-use Rattle.version_parse.specs.Parse.{parsedInto, parsed, parsedOutcome}
+use Rattle.version_parse.specs.Parse.{parsedInto, parsed}
+use Rattle.version_parse.specs.ParseAnswers.{parsedOutcome}
 use Rattle.version_parse.proofs.Parses.{answered, stored-done, stored-refused}
 use Rattle.version_parse.proofs.parse.parse.Statement.{statement}
 use Rattle.version_parse.proofs.parse.parse.Tie as tie
