@@ -19,9 +19,8 @@ use symbol::table::symbol_count;
 ghost use mathlib.Core.Bool.{true};
 ghost use mathlib.Core.Path.{_≡_};
 ghost use Prim.Native.Nat.{ℕ, _≤_, _<_};
-ghost use Rattle.gnu_table.specs.Header.{tableWith};
-ghost use Rattle.gnu_rules.specs.Rules.{valueIsHash, gnuCheck};
-ghost use Rattle.gnu_rules.specs.Rules.{check as checkOf};
+ghost use Rattle.gnu_table.specs.Layout.{tableWith};
+ghost use Rattle.gnu_rules.specs.Rules.{valueIsHash, gnuCheck, gnuTableCheck};
 ghost use Rattle.gnu_check.specs.Verdicts.{Sound, fromNames, fromBuckets};
 
 // G9, G10 and the longest chain.
@@ -93,7 +92,7 @@ fn check_table(
     count: u32,
 ) -> Checked
     ensures { λ r. ⌜ r
-        ≡ checkOf (tableWith class order (now (table .entry)) (now (symbols .entry)) (now (strings .entry)) layout count) ⌝ }
+        ≡ gnuTableCheck (tableWith class order (now (table .entry)) (now (symbols .entry)) (now (strings .entry)) layout count) ⌝ }
 {
     let broken = broken_header(layout, count);
     if broken != 0 {

@@ -11,7 +11,7 @@ ghost use mathlib.Core.Path.{_≡_};
 ghost use mathlib.Core.Bool.{cond};
 ghost use lib.Dec.{eqb};
 ghost use Prim.Native.Nat.{_-_, _%_, _<_, min};
-ghost use Rattle.gnu_table.specs.Header.{tableWith};
+ghost use Rattle.gnu_table.specs.Layout.{tableWith};
 ghost use Rattle.gnu_check_hashes.specs.Names.{hashIn};
 ghost use Rattle.lookup.specs.Search.{firstFrom};
 ghost use Rattle.gnu_check_buckets.specs.Runs.{mayBe, stray, leastMisplaced, wrongBucket};

@@ -10,7 +10,7 @@ ghost use mathlib.Core.Path.{_≡_};
 ghost use Prim.Native.Nat.{_+_, _*_, _≤_, _<_, max};
 ghost use Rattle.endian.specs.Word.{wordAt};
 ghost use Rattle.gnu_table.specs.Table.{odd};
-ghost use Rattle.gnu_table.specs.Header.{tableWith};
+ghost use Rattle.gnu_table.specs.Layout.{tableWith};
 ghost use Rattle.gnu_check_ends.specs.Ends.{lastIn, endsRun, wrongEnd, longestChain};
 
 // Whether the next symbol is of another bucket, or there is none.

@@ -7,7 +7,7 @@ use gnu_table::filter::bloom_filter;
 use gnu_table::header::Layout;
 ghost use mathlib.Core.Bool.{not};
 ghost use mathlib.Core.Path.{_≡_};
-ghost use Rattle.gnu_table.specs.Header.{tableWith};
+ghost use Rattle.gnu_table.specs.Layout.{tableWith};
 ghost use Rattle.lookup.specs.Search.{firstFrom};
 ghost use Rattle.gnu_check_values.specs.Blooms.{hashPasses};
 

@@ -7,7 +7,7 @@ use gnu_table::words::word_of;
 ghost use mathlib.Core.Bool.{not};
 ghost use mathlib.Core.Path.{_≡_};
 ghost use Prim.Native.Nat.{_≤_};
-ghost use Rattle.gnu_table.specs.Header.{tableWith};
+ghost use Rattle.gnu_table.specs.Layout.{tableWith};
 ghost use Rattle.gnu_rules.specs.Rules.{valueIsHash};
 ghost use Rattle.lookup.specs.Search.{firstFrom};
 

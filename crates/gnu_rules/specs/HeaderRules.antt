@@ -1,4 +1,5 @@
--- The first broken rule of G1 to G5, of a header over so many symbols, or 0.
+-- Need not be believed: the first broken rule of G1 to G5, of a header over so many symbols, or 0. The contract of a pass cites
+-- it, and `gnu_check` shows that the checker is `gnuCheck` through it.
 --     firstBroken     the same, of whether each of the five is kept
 --     brokenHeader    of a header; these rules look at its numbers alone, so any class, order and bytes do
 -- Assumes nothing.
@@ -8,7 +9,7 @@ use mathlib.Core.List.{[]}
 use Rattle.endian.specs.declared.kinds.Class.the-variants.{Elf32}
 use Rattle.endian.specs.declared.kinds.Order.the-variants.{Little}
 use Rattle.gnu_table.specs.declared.header.Layout.{Layout}
-use Rattle.gnu_table.specs.Header.{tableAt}
+use Rattle.gnu_table.specs.Places.{tableAt}
 use Rattle.gnu_rules.specs.Rules.{baseWithin, bloomCountPower, someBucket, shiftWithin, enoughValues}
 
 abbrev pub firstBroken : (g1 g2 g3 g4 g5 : Bool) → ℕ

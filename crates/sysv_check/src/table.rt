@@ -15,10 +15,9 @@ ghost use mathlib.Core.Path.{_≡_};
 ghost use Prim.Native.Nat.{_/_};
 ghost use lib.ListN.{length};
 ghost use Rattle.symbol.specs.Table.{symbolSize};
-ghost use Rattle.sysv_header.specs.Header.{headerOf};
-ghost use Rattle.sysv.specs.Layout.{tableOf};
-ghost use Rattle.sysv_check.specs.Rules.{check as checkOf};
-ghost use Rattle.sysv_check.specs.Pass.{shaped};
+ghost use Rattle.sysv_header.specs.Reading.{headerOf};
+ghost use Rattle.sysv.specs.Layout.{sysvTableOf};
+ghost use Rattle.sysv_check.specs.Rules.{t1, sysvTableCheck};
 ghost use Rattle.sysv_check.specs.Check.{sysvCheck};
 
 // The first symbol that must be found.
@@ -33,7 +32,7 @@ pub enum Checked {
 
 // T1.
 fn has_shape(buckets: u32, chains: u32, count: u32, low: u32) -> bool
-    ensures { λ r. ⌜ r ≡ shaped buckets chains count low ⌝ }
+    ensures { λ r. ⌜ r ≡ t1 buckets chains count low ⌝ }
 {
     if low < 1 {
         return false;
@@ -60,7 +59,7 @@ fn check_rules(
 ) -> Checked
     requires { ⌜ (header ≡ headerOf order (now table)) × (count ≡ length (now symbols) / symbolSize class) ⌝ }
     ensures { λ r. ⌜ r
-        ≡ checkOf (tableOf order (now (table .entry)) class (now (symbols .entry)) (now (strings .entry))) low ⌝ }
+        ≡ sysvTableCheck (sysvTableOf order (now (table .entry)) class (now (symbols .entry)) (now (strings .entry))) low ⌝ }
 {
     let buckets = header.bucket_count;
     if !has_shape(buckets, header.chain_count, count, low) {

@@ -8,8 +8,8 @@ ghost use mathlib.Core.Path.{_≡_};
 ghost use Prim.Native.Nat.{_+_, _*_, _%_, _^_, _<_};
 ghost use Rattle.endian.specs.Word.{wordAt};
 ghost use Rattle.lookup.specs.Wanted.{nameOf};
-ghost use Rattle.sysv_check_chains.specs.Pass.{hashOf, inRange, mayStand, stepsOf, ended, allSpent};
-ghost use Rattle.sysv_check_chains.specs.Pass.{follow as followed};
+ghost use Rattle.sysv_check_chains.specs.Pass.{inRange, mayStand, stepsOf, ended, allSpent, follow as followed};
+ghost use Rattle.sysv_check_chains.specs.Hash.{sysvHashAt};
 
 // What is left of the steps after a chain, or that something is wrong with it.
 pub enum Steps {
@@ -31,7 +31,7 @@ fn may_stand(
 ) -> bool
     requires { ⌜ 0 < buckets ⌝ }
     ensures { λ r. ⌜ r
-        ≡ mayStand (λ j. hashOf (nameOf class order (now (symbols .entry)) (now (strings .entry))) j % buckets) low count b i ⌝ }
+        ≡ mayStand (λ j. sysvHashAt (nameOf class order (now (symbols .entry)) (now (strings .entry))) j % buckets) low count b i ⌝ }
 {
     if i < low {
         return false;
@@ -96,7 +96,7 @@ fn follow(
     requires { ⌜ (0 < buckets) × («chains_at» < 2 ^ 40) ⌝ }
     ensures { λ r. ⌜ r
         ≡ stepsOf (followed (λ j. wordAt order 4 (now (table .entry)) («chains_at» + j * 4))
-        (mayStand (λ j. hashOf (nameOf class order (now (symbols .entry)) (now (strings .entry))) j % buckets) low count b)
+        (mayStand (λ j. sysvHashAt (nameOf class order (now (symbols .entry)) (now (strings .entry))) j % buckets) low count b)
         left start) ⌝ }
 {
     let mut number: u32 = start;
@@ -142,7 +142,7 @@ pub fn chains_hold(
     ensures { λ r. ⌜ r
         ≡ allSpent (λ j. wordAt order 4 (now (table .entry)) (8 + buckets * 4 + j * 4))
         (λ b. wordAt order 4 (now (table .entry)) (8 + b * 4))
-        (mayStand (λ j. hashOf (nameOf class order (now (symbols .entry)) (now (strings .entry))) j % buckets) low count)
+        (mayStand (λ j. sysvHashAt (nameOf class order (now (symbols .entry)) (now (strings .entry))) j % buckets) low count)
         buckets steps ⌝ }
 {
     let chains_at = 8 + buckets as usize * 4;

@@ -3,17 +3,17 @@ use mathlib.Core.Path.{_≡_, sym, ap, _∙_}
 use mathlib.Core.Option.{none}
 use borrow.Author.Needs.{needs}
 use Rattle.lookup.specs.Pick.{from}
-use Rattle.gnu_table.specs.Table.{Table}
+use Rattle.gnu_table.specs.Table.{GnuTable}
 use Rattle.gnu_rules.specs.declared.Checked.the-variants.{Accepted}
 use Rattle.gnu_rules.specs.Rules.{bucketRight, lowest}
-use Rattle.gnu_table.specs.Header.{tableWith}
+use Rattle.gnu_table.specs.Layout.{tableWith}
 use Rattle.gnu_check_ends.specs.Ends.{endsRun}
 use Rattle.gnu_check.proofs.Judged.{lowest-at, lowest-nowhere, wrong-bucket, right-buckets, ends-search, from-buckets-10, from-buckets-accepted}
 use Rattle.gnu_check.proofs.check.check_buckets.Statement.{statement}
 use Rattle.gnu_check.proofs.check.check_buckets.Tie as tie
 
 -- the table of the arguments
-abbrev table-of : tie.Start → Table
+abbrev table-of : tie.Start → GnuTable
 table-of c =
     let a = c .args in
     tableWith (a .class) (a .order) (a .table .now) (a .symbols .now) (a .strings .now) (a .layout) (a .count)

@@ -2,15 +2,15 @@
 use mathlib.Core.Path.{_≡_, sym, _∙_}
 use mathlib.Core.Option.{none}
 use borrow.Author.Needs.{needs}
-use Rattle.gnu_table.specs.Table.{Table, hashed}
+use Rattle.gnu_table.specs.Table.{GnuTable, hashed}
 use Rattle.gnu_rules.specs.Rules.{nameReadable, valueIsHash, bloomBitsSet, lowest}
-use Rattle.gnu_table.specs.Header.{tableWith}
+use Rattle.gnu_table.specs.Layout.{tableWith}
 use Rattle.gnu_check.proofs.Judged.{lowest-at, lowest-nowhere, bits-search, all-kept, from-names-6, from-names-7, from-names-8, from-names-kept}
 use Rattle.gnu_check.proofs.check.check_symbols.Statement.{statement}
 use Rattle.gnu_check.proofs.check.check_symbols.Tie as tie
 
 -- the table of the arguments
-abbrev table-of : tie.Start → Table
+abbrev table-of : tie.Start → GnuTable
 table-of c =
     let a = c .args in
     tableWith (a .class) (a .order) (a .table .now) (a .symbols .now) (a .strings .now) (a .layout) (a .count)

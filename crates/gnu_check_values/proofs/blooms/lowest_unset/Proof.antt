@@ -9,9 +9,9 @@ use borrow.Author.Tests.{not-true, not-false}
 use Rattle.endian.specs.declared.kinds.Class.{Class}
 use Rattle.endian.specs.declared.kinds.Order.{Order}
 use Rattle.gnu_table.specs.declared.header.Layout.{Layout}
-use Rattle.gnu_table.specs.Header.{tableWith}
+use Rattle.gnu_table.specs.Layout.{tableWith}
 use Rattle.gnu_table.specs.Table.{bloomFirst, bloomSecond, bloomFilter}
-use Rattle.gnu_rules.specs.Rules.{hashOf}
+use Rattle.gnu_rules.specs.Rules.{gnuHashAt}
 use Rattle.lookup.proofs.Searching.{Searching, searching-start, searching-next, searching-here, searching-end}
 use Rattle.gnu_check_values.specs.Blooms.{hashPasses}
 use Rattle.gnu_check_values.proofs.blooms.lowest_unset.Statement.{statement}
@@ -40,7 +40,7 @@ tested : (c : tie.After-has-bits Inv-loop μ-loop)
     c .has-bits .result
     ≡ hashPasses (tableWith (a .class) (a .order) (a .table .now) (a .symbols .now) (a .strings .now) (a .layout)
     (a .count)) (c .before .before .loop .i)
-unfolding hashPasses hashOf bloomFilter bloomFirst bloomSecond
+unfolding hashPasses gnuHashAt bloomFilter bloomFirst bloomSecond
 tested c = c .has-bits .ensures
 
 returns : tie.Need-returns Inv-loop μ-loop

@@ -9,8 +9,8 @@ use borrow.Author.Tests.{not-true, not-false}
 use Rattle.endian.specs.declared.kinds.Class.{Class}
 use Rattle.endian.specs.declared.kinds.Order.{Order}
 use Rattle.gnu_table.specs.declared.header.Layout.{Layout}
-use Rattle.gnu_rules.specs.Rules.{hashOf, valueIsHash}
-use Rattle.gnu_table.specs.Header.{tableWith}
+use Rattle.gnu_rules.specs.Rules.{gnuHashAt, valueIsHash}
+use Rattle.gnu_table.specs.Layout.{tableWith}
 use Rattle.lookup.proofs.Searching.{Searching, searching-start, searching-next, searching-here, searching-end}
 use Rattle.gnu_check_values.proofs.values.lowest_wrong_value.Statement.{statement}
 use Rattle.gnu_check_values.proofs.values.lowest_wrong_value.Tie as tie
@@ -38,7 +38,7 @@ tested : (c : tie.After-value-is-right Inv-loop μ-loop)
     c .value-is-right .result
     ≡ valueIsHash (tableWith (a .class) (a .order) (a .table .now) (a .symbols .now) (a .strings .now) (a .layout)
     (a .count)) (c .before .before .loop .i)
-unfolding hashOf
+unfolding gnuHashAt
 tested c = c .value-is-right .ensures
 
 returns : tie.Need-returns Inv-loop μ-loop
