@@ -4,7 +4,8 @@
 --     mayBe            by its value alone, a symbol may be of a bucket
 --     runStart         the start of the run of equal buckets that a hashed symbol is in, by how far it is past symbol_base
 --     misplaced        a symbol whose bucket does not hold the start of its run
---     stray            a bucket that holds neither 0 nor the start of a run of its own
+--     begins           a symbol is the start of a run of a bucket, and by its value may be of it
+--     stray            a bucket that holds neither 0 nor such a symbol
 --     leastMisplaced   the lowest bucket of a misplaced symbol
 --     leastWrong       the lowest bucket that is stray, or that a misplaced symbol is in
 --     wrongBucket      the same, or the number of buckets

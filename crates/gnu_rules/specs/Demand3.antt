@@ -3,7 +3,7 @@
 --     probesOf          how many probes an answer says were made
 --     symbolBase        the header's second word
 --     LowestMatch       a symbol is the lowest match, from symbol_base on and below n
---     walked            the pairs of document 01's walk
+--     readBy, walked    the pairs of document 01's walk
 --     Demand3           the demand's sentence, of an answer and the longest chain
 --     Demand3Holds      the theorem: in an accepted table every lookup keeps it; `demand-3` in proofs/Demand3 proves it
 --     Demand3Last       the demand's last sentence, as a theorem: `demand-3-last` there proves it

@@ -5,6 +5,7 @@
 --     OnItsChain       those of the chain of the name's hash
 --     FirstMatch       the first match on a list
 --     sysvAnswer       the lookup with the name's own hash
+--     NoMatch          no symbol 1 to n - 1 matches
 --     Right            the sentence, of that answer
 --     AcceptedHolds    the theorem: an accepted table keeps it; `accepted` in proofs/Accepted proves it
 -- Assumes nothing.
@@ -51,7 +52,6 @@ module _ (class : Class) (order : Order) (p : Parts) (asked : Asked) where
   abbrev pub sysvAnswer : Answer
   sysvAnswer = sysvFind class order p asked (sysvHash (asked .name))
 
-  -- no symbol 1 to n - 1 matches
   abbrev pub NoMatch : Type 0
   NoMatch = (i : ℕ) → firstGlobal ≤ i → i < symbolsIn class (p .symbols) → ¬ Matches class order p asked i
 
@@ -64,7 +64,8 @@ module _ (class : Class) (order : Order) (p : Parts) (asked : Asked) where
     pub nothing-if : NoMatch → sysvAnswer ≡ Missing (length chain)
     -- else the first match on the chain, after as many probes as numbers up to it
     pub found-then : (i probes : ℕ) → sysvAnswer ≡ Found (symbolIndex i) probes
-        → (firstGlobal ≤ i) × (i < symbolsIn class (p .symbols)) × (m : FirstMatch chain i) × (probes ≡ suc (length (m .before)))
+        → (firstGlobal ≤ i) × (i < symbolsIn class (p .symbols))
+        × (m : FirstMatch chain i) × (probes ≡ suc (length (m .before)))
     pub found-first : (i : ℕ) (m : FirstMatch chain i) → sysvAnswer ≡ Found (symbolIndex i) (suc (length (m .before)))
     pub found-if : (i : ℕ) → firstGlobal ≤ i → i < symbolsIn class (p .symbols) → Matches class order p asked i
         → (j : ℕ) × (m : FirstMatch chain j) × (sysvAnswer ≡ Found (symbolIndex j) (suc (length (m .before))))

@@ -6,6 +6,7 @@ use endian::refusals::Refusal;
 use endian::refusals::TOO_LONG;
 use readable_names::lowest_unreadable;
 use symbol::table::SymbolCount;
+use symbol::table::SymbolIndex;
 use symbol::table::symbol_count;
 use sysv_check_chains::chains::chains_hold;
 use sysv_header::header::Header;
@@ -65,7 +66,8 @@ fn check_rules(
     if !has_shape(buckets, header.chain_count, count, low) {
         return Checked::Broken(1);
     }
-    if lowest_unreadable(class, order, symbols, strings, low, count) != count {
+    let first = SymbolIndex(low);
+    if lowest_unreadable(class, order, symbols, strings, first, count).0 != count {
         return Checked::Broken(2);
     }
     if !chains_hold(
@@ -76,7 +78,7 @@ fn check_rules(
         strings,
         buckets,
         count,
-        low,
+        first,
         count - low,
     ) {
         return Checked::Broken(3);

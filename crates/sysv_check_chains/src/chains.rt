@@ -126,8 +126,8 @@ fn follow(
     }
 }
 
-// Whether all chains together take exactly so many steps, and only numbers from low on and below the
-// count stand on them, each on the chain of its hash.
+// Whether all chains together take exactly so many steps, and only numbers from `first` on and below
+// the count stand on them, each on the chain of its hash.
 pub fn chains_hold(
     class: Class,
     order: Order,
@@ -136,15 +136,16 @@ pub fn chains_hold(
     strings: &[u8],
     buckets: u32,
     count: u32,
-    low: u32,
+    first: SymbolIndex,
     steps: u32,
 ) -> bool
     ensures { λ r. ⌜ r
         ≡ allSpent (λ j. wordAt order 4 (now (table .entry)) (8 + buckets * 4 + j * 4))
         (λ b. wordAt order 4 (now (table .entry)) (8 + b * 4))
-        (mayStand (λ j. sysvHashAt (nameOf class order (now (symbols .entry)) (now (strings .entry))) j % buckets) low count)
+        (mayStand (λ j. sysvHashAt (nameOf class order (now (symbols .entry)) (now (strings .entry))) j % buckets) (first .0) count)
         buckets steps ⌝ }
 {
+    let low = first.0;
     let chains_at = 8 + buckets as usize * 4;
     let mut left: u32 = steps;
     let mut b: u32 = 0;

@@ -112,8 +112,8 @@ returns-6 c =
     (k .before .if2 .left) (k .if3 .left) (sym (may-is (may .before)) ∙ not-false _ (may .if4 .left))
     (sym (bucket-is (own .before)) ∙ own .if5 .left) (c .if6 .taken))
 
-sub-bucket-of : tie.Need-sub-bucket-of
-sub-bucket-of c = search needs
+sub-result : tie.Need-sub-result
+sub-result c = search needs
 
 bucket-of-requires-2 : tie.Need-bucket-of-requires-2
 bucket-of-requires-2 c κs = search needs
@@ -149,6 +149,6 @@ is-stray-spec =
     bucket-of-requires
     returns-5
     returns-6
-    sub-bucket-of
+    sub-result
     bucket-of-requires-2
     returns-7)

@@ -31,7 +31,7 @@ enum-told-3 c = search needs
 bits : (c : tie.After-bloom-filter) (bloom : Bloom) → c .bloom-filter .result ≡ bloom
     → let a = c .before .before .before .before .before .args in
     passes bloom
-    ≡ hashPasses (tableWith (a .class) (a .order) (a .table .now) (a .symbols .now) (a .strings .now) (a .layout) 0) (a .i)
+    ≡ hashPasses (tableWith (a .class) (a .order) (a .table .now) (a .symbols .now) (a .strings .now) (a .layout) 0) (a .symbol .0)
 unfolding hashPasses gnuHashAt hashIn bloomFilter bloomFirst bloomSecond
 bits c bloom told =
     let a = c .before .before .before .before .before .args in
