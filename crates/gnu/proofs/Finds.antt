@@ -2,7 +2,7 @@
 --     filter-any         the bloom filter does not ask how many symbols there are
 --     findBy, find-by    the lookup, by whether a part that is only compared is too long, the symbols and the header
 -- Assumes nothing.
-use Prim.Native.Nat.{ℕ, _/_}
+use Prim.Native.Nat.{ℕ}
 use mathlib.Core.Path.{_≡_, refl, sym, ap, _∙_}
 use mathlib.Core.Bool.{Bool, true, false, cond}
 use mathlib.Core.List.{List, [], _∷_}
@@ -14,7 +14,7 @@ use Rattle.endian.specs.declared.kinds.Order.{Order}
 use Rattle.endian.specs.declared.refusals.Refusal.{Refusal}
 use Rattle.endian.specs.Refusals.{limit, anyLong, tooLong, unlessRefused}
 use Rattle.symbol.specs.declared.table.SymbolCount.{SymbolCount}
-use Rattle.symbol.specs.Table.{symbolSize, symbolCount}
+use Rattle.symbol.specs.Table.{symbolsIn, symbolCount}
 use Rattle.lookup.specs.declared.Answer.{Answer}
 use Rattle.lookup.specs.Wanted.{Parts, Asked, wanted}
 use Rattle.gnu_table.specs.declared.header.HeaderAt.{HeaderAt}
@@ -63,7 +63,7 @@ module _ (class : Class) (order : Order) (p : Parts) (asked : Asked) (hash : ℕ
   unfolding gnuFind gnuHeader gnuLookup bloomFilter bloomFirst bloomSecond startOf
   by-parts =
       any-order (ltb limit (length (p .table))) (ltb limit (length (p .symbols))) (anyLong rest) (gnuFault class order (p .table))
-      (length (p .symbols) / symbolSize class) (layoutOf class order (p .table)) lookIn
+      (symbolsIn class (p .symbols)) (layoutOf class order (p .table)) lookIn
 
   pub find-by : (restLong : Bool) (counted : SymbolCount) (header : HeaderAt)
       → restLong ≡ anyLong (p .strings ∷ p .versyms ∷ p .versionStrings ∷ asked .name ∷ asked .needName ∷ [])

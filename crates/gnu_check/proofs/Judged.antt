@@ -1,5 +1,6 @@
 -- The checker's answer, step by step.
 --     judge-header, header-broken, header-kept    the answer by G1 to G5; what a table keeps that breaks none of them
+--     number                                      the number of a symbol that a pass answers
 --     bits-search                                 what the bloom filter says of G8
 --     from-names-6, -7, -8, -kept                 the answer by G6 to G8
 --     wrong-bucket, right-buckets                 what the pass over the buckets says of G9
@@ -7,7 +8,7 @@
 --     from-buckets-9, -10, -accepted              the answer by G9 and G10
 --     checkFrom, check-told                       the answer by what was read of the parts
 -- Assumes nothing.
-use Prim.Native.Nat.{ℕ, zero, suc, _+_, _-_, _/_, _≤_, _<_}
+use Prim.Native.Nat.{ℕ, zero, suc, _+_, _-_, _≤_, _<_}
 use mathlib.Core.Path.{_≡_, refl, sym, ap, _∙_}
 use mathlib.Core.Bool.{Bool, true, false, cond, not, _&&_, Bool·beq}
 use mathlib.Core.List.{List, [], _∷_, map}
@@ -22,7 +23,8 @@ use Rattle.endian.specs.declared.kinds.Order.{Order}
 use Rattle.endian.specs.declared.refusals.Refusal.{Refusal}
 use Rattle.endian.specs.Refusals.{limit, tooLong, unlessRefused}
 use Rattle.symbol.specs.declared.table.SymbolCount.{SymbolCount}
-use Rattle.symbol.specs.Table.{symbolSize, symbolCount}
+use Rattle.symbol.specs.declared.table.SymbolIndex.{SymbolIndex}
+use Rattle.symbol.specs.Table.{symbolsIn, symbolCount}
 use Rattle.lookup.specs.Pick.{from, largest}
 use Rattle.lookup.proofs.Picking.{All, all-from, firstOf-cong, by-test, and-right, beq-eq}
 use Rattle.gnu_table.specs.declared.header.HeaderAt.{HeaderAt}
@@ -32,7 +34,7 @@ use Rattle.gnu_table.specs.Header.{gnuFault, layoutOf, gnuHeader}
 use Rattle.gnu_table.specs.Layout.{tableWith}
 use Rattle.gnu_rules.specs.declared.Checked.{Checked}
 use Rattle.gnu_rules.specs.declared.Checked.the-variants.{Accepted, Broken, Refused}
-use Rattle.gnu_rules.specs.Rules.{gnuBucketOf, powerOfTwo, baseWithin, bloomCountPower, someBucket, shiftWithin, enoughValues, nameReadable, valueIsHash, bloomBitsSet, bucketRight, endsAtLast, whole, lowest, findings, longest, verdict, gnuTableCheck, gnuCheck}
+use Rattle.gnu_rules.specs.Rules.{gnuBucketOf, powerOfTwo, baseWithin, someBucket, shiftWithin, enoughValues, nameReadable, valueIsHash, bloomBitsSet, bucketRight, endsAtLast, whole, lowest, findings, longest, verdict, gnuTableCheck, gnuCheck}
 use Rattle.gnu_rules.proofs.Kept.{power-low, lowest-none}
 use Rattle.lookup.specs.Search.{firstFrom}
 use Rattle.gnu_rules.specs.HeaderRules.{firstBroken, brokenHeader}
@@ -79,7 +81,7 @@ module _ (class : Class) (order : Order) (table symbols strings : List ℕ) (lay
   judge-header : gnuTableCheck t ≡ afterHeader (brokenHeader layout count) (fromNames t)
   unfolding brokenHeader fromNames findings
   judge-header =
-      judge (baseWithin t) (bloomCountPower t) (someBucket t) (shiftWithin t) (enoughValues t) (longest t)
+      judge (baseWithin t) (powerOfTwo (t .bloomCount)) (someBucket t) (shiftWithin t) (enoughValues t) (longest t)
       (lowest (nameReadable t) (hashed t) ∷
       lowest (valueIsHash t) (hashed t) ∷
       lowest (bloomBitsSet t) (hashed t) ∷
@@ -108,6 +110,10 @@ header-sound layout count n is none-broken =
     }
 
 -- ---- G6 to G8
+
+-- the number of a symbol
+abbrev pub number : SymbolIndex → ℕ
+number symbol = symbol .0
 
 module _ (t : GnuTable) (within : t .base ≤ t .count) where
   -- an answer of a pass that looks for a broken rule
@@ -264,7 +270,7 @@ check-from : (class : Class) (order : Order) (table symbols strings : List ℕ)
 unfolding gnuCheck gnuHeader
 check-from class order table symbols strings =
     any-order (ltb limit (length table)) (ltb limit (length symbols)) (ltb limit (length strings)) (gnuFault class order table)
-    (length symbols / symbolSize class) (layoutOf class order table)
+    (symbolsIn class symbols) (layoutOf class order table)
     (λ layout count. gnuTableCheck (tableWith class order table symbols strings layout count))
 
 -- the same, told what was read

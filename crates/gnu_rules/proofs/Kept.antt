@@ -17,7 +17,7 @@ use Rattle.lookup.specs.Pick.{from, firstOf, isNone}
 use Rattle.lookup.proofs.Picking.{All, all-map, from-all, none-firstOf, firstOf-passes, and-left, and-right, not-none}
 use Rattle.gnu_table.specs.Table.{GnuTable, hashed}
 use Rattle.gnu_rules.specs.declared.Checked.the-variants.{Accepted}
-use Rattle.gnu_rules.specs.Rules.{verdict, longest, gnuTableCheck, findings, whole, lowest, powerOfTwo, baseWithin, bloomCountPower, someBucket, shiftWithin, enoughValues, nameReadable, valueIsHash, bloomBitsSet, bucketRight, endsAtLast}
+use Rattle.gnu_rules.specs.Rules.{verdict, longest, gnuTableCheck, findings, whole, lowest, powerOfTwo, baseWithin, someBucket, shiftWithin, enoughValues, nameReadable, valueIsHash, bloomBitsSet, bucketRight, endsAtLast}
 
 pub record Rules (t : GnuTable) : Type 0 where
   pub base-low : 1 ≤ t .base
@@ -71,7 +71,7 @@ rules t most h =
     record {
       base-low = leb-true _ _ (and-left (leb 1 (t .base)) (leb (t .base) (t .count)) base);
       base-high = leb-true _ _ (and-right (leb 1 (t .base)) (leb (t .base) (t .count)) base);
-      blooms = power-low (t .bloomCount) (whole-none (bloomCountPower t) (n .1 .0));
+      blooms = power-low (t .bloomCount) (whole-none (powerOfTwo (t .bloomCount)) (n .1 .0));
       buckets = leb-true _ _ (whole-none (someBucket t) (n .1 .1 .0));
       shift = leb-true _ _ (whole-none (shiftWithin t) (n .1 .1 .1 .0));
       values = leb-true _ _ (whole-none (enoughValues t) (n .1 .1 .1 .1 .0));

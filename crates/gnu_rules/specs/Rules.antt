@@ -52,7 +52,7 @@ module _ (t : GnuTable) where
   abbrev pub baseWithin : Bool
   baseWithin = leb 1 (t .base) && leb (t .base) (t .count)
 
--- one of 2 ^ 0 to 2 ^ 31: a count has 32 bits
+-- G2, of bloom_count: one of 2 ^ 0 to 2 ^ 31, since a count has 32 bits
 unfoldable pub powerOfTwo : ℕ → Bool
 powerOfTwo n = not (isNone (firstOf (λ k. eqb n (2 ^ k)) (from 0 32)))
 
@@ -62,10 +62,6 @@ holds v [] = eqb v 0
 holds v (m ∷ ms) = eqb v m && same (m ∷ ms) (from m (length (m ∷ ms)))
 
 module _ (t : GnuTable) where
-  -- G2: bloom_count a power of two
-  abbrev pub bloomCountPower : Bool
-  bloomCountPower = powerOfTwo (t .bloomCount)
-
   -- G3: bucket_count >= 1
   abbrev pub someBucket : Bool
   someBucket = leb 1 (t .bucketCount)
@@ -112,7 +108,7 @@ lowest kept places = firstOf (λ i. not (kept i)) places
 unfoldable pub findings : GnuTable → List (Option ℕ)
 findings t =
     whole (baseWithin t) ∷
-    whole (bloomCountPower t) ∷
+    whole (powerOfTwo (t .bloomCount)) ∷
     whole (someBucket t) ∷
     whole (shiftWithin t) ∷
     whole (enoughValues t) ∷

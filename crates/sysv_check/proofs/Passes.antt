@@ -4,7 +4,7 @@
 --     checkFrom, check-from     the checker's answer by the counted symbols and the header
 --     count-read                symbols that were counted
 -- Assumes nothing.
-use Prim.Native.Nat.{ℕ, _+_, _-_, _*_, _/_, _%_, _≤_}
+use Prim.Native.Nat.{ℕ, _+_, _-_, _*_, _%_, _≤_}
 use mathlib.Core.Path.{_≡_, refl, sym, _∙_}
 use mathlib.Core.Bool.{Bool, true, false, cond, not, _&&_}
 use mathlib.Core.List.{List}
@@ -18,7 +18,7 @@ use Rattle.endian.specs.declared.refusals.Refusal.{Refusal}
 use Rattle.endian.specs.Refusals.{limit, tooLong, unlessRefused}
 use Rattle.endian.specs.Word.{wordAt}
 use Rattle.symbol.specs.declared.table.SymbolCount.{SymbolCount}
-use Rattle.symbol.specs.Table.{symbolSize, symbolCount}
+use Rattle.symbol.specs.Table.{symbolsIn, symbolCount}
 use Rattle.lookup.specs.Search.{firstFrom}
 use Rattle.lookup.specs.Wanted.{nameOf}
 use Rattle.lookup.proofs.Picking.{and-left, and-right}
@@ -47,7 +47,7 @@ shaped-facts buckets chains count low h =
 -- ---- the rules
 
 module _ (class : Class) (order : Order) (table symbols strings : List ℕ) (low : ℕ) (header : Header) (count : ℕ)
-    (own : header ≡ headerOf order table) (many : count ≡ length symbols / symbolSize class) where
+    (own : header ≡ headerOf order table) (many : count ≡ symbolsIn class symbols) where
   abbrev whole : SysvTable
   whole = sysvTableOf order table class symbols strings
 
@@ -112,7 +112,7 @@ module _ (class : Class) (order : Order) (table symbols strings : List ℕ) wher
       by : (a b c : Bool) (o : Option Refusal) (checked : Checked)
           → cond (cond a true (cond b true (cond c true false))) (Checked.Refused tooLong) (unlessRefused Checked.Refused o checked)
           ≡ cond c (Checked.Refused tooLong)
-          (checkFrom (cond b (SymbolCount.Refused tooLong) (SymbolCount.Symbols (length symbols / symbolSize class)))
+          (checkFrom (cond b (SymbolCount.Refused tooLong) (SymbolCount.Symbols (symbolsIn class symbols)))
           (cond a (HeaderAt.Refused tooLong) (unlessRefused HeaderAt.Refused o (HeaderAt.At (headerOf order table)))) checked)
       by true true true o checked = refl
       by true true false o checked = refl
@@ -125,12 +125,12 @@ module _ (class : Class) (order : Order) (table symbols strings : List ℕ) wher
       by false false false (some r) checked = refl
 
 pub count-read : (class : Class) (symbols : List ℕ) (n : ℕ) → symbolCount class symbols ≡ SymbolCount.Symbols n
-    → n ≡ length symbols / symbolSize class
+    → n ≡ symbolsIn class symbols
 count-read class symbols n h = by (ltb limit (length symbols)) h
   where
     by : (b : Bool)
-        → cond b (SymbolCount.Refused tooLong) (SymbolCount.Symbols (length symbols / symbolSize class))
+        → cond b (SymbolCount.Refused tooLong) (SymbolCount.Symbols (symbolsIn class symbols))
         ≡ SymbolCount.Symbols n
-        → n ≡ length symbols / symbolSize class
+        → n ≡ symbolsIn class symbols
     by true e = cc
     by false e = cc

@@ -13,9 +13,7 @@ use sysv_header::header::Header;
 use sysv_header::header::HeaderAt;
 use sysv_header::header::header_of;
 ghost use mathlib.Core.Path.{_≡_};
-ghost use Prim.Native.Nat.{_/_};
-ghost use lib.ListN.{length};
-ghost use Rattle.symbol.specs.Table.{symbolSize};
+ghost use Rattle.symbol.specs.Table.{symbolsIn};
 ghost use Rattle.sysv_header.specs.Reading.{headerOf};
 ghost use Rattle.sysv.specs.Layout.{sysvTableOf};
 ghost use Rattle.sysv_check.specs.Rules.{t1, sysvTableCheck};
@@ -58,7 +56,7 @@ fn check_rules(
     count: u32,
     low: u32,
 ) -> Checked
-    requires { ⌜ (header ≡ headerOf order (now table)) × (count ≡ length (now symbols) / symbolSize class) ⌝ }
+    requires { ⌜ (header ≡ headerOf order (now table)) × (count ≡ symbolsIn class (now symbols)) ⌝ }
     ensures { λ r. ⌜ r
         ≡ sysvTableCheck (sysvTableOf order (now (table .entry)) class (now (symbols .entry)) (now (strings .entry))) low ⌝ }
 {

@@ -1,16 +1,14 @@
 -- `gnu_check::check::check_buckets` meets its contract: each return is the law of its answer. Assumes nothing.
-use Prim.Native.Nat.{ℕ}
 use mathlib.Core.Path.{_≡_, sym, ap, _∙_}
 use mathlib.Core.Option.{none}
 use borrow.Author.Needs.{needs}
-use Rattle.symbol.specs.declared.table.SymbolIndex.{SymbolIndex}
 use Rattle.lookup.specs.Pick.{from}
 use Rattle.gnu_table.specs.Table.{GnuTable}
 use Rattle.gnu_rules.specs.declared.Checked.the-variants.{Accepted}
 use Rattle.gnu_rules.specs.Rules.{bucketRight, lowest}
 use Rattle.gnu_table.specs.Layout.{tableWith}
 use Rattle.gnu_check_ends.specs.Ends.{endsRun}
-use Rattle.gnu_check.proofs.Judged.{lowest-at, lowest-nowhere, wrong-bucket, right-buckets, ends-search, from-buckets-10, from-buckets-accepted}
+use Rattle.gnu_check.proofs.Judged.{number, lowest-at, lowest-nowhere, wrong-bucket, right-buckets, ends-search, from-buckets-10, from-buckets-accepted}
 use Rattle.gnu_check.proofs.check.check_buckets.Statement.{statement}
 use Rattle.gnu_check.proofs.check.check_buckets.Tie as tie
 
@@ -19,10 +17,6 @@ abbrev table-of : tie.Start → GnuTable
 table-of c =
     let a = c .args in
     tableWith (a .class) (a .order) (a .table .now) (a .symbols .now) (a .strings .now) (a .layout) (a .count)
-
--- the number of a symbol
-abbrev number : SymbolIndex → ℕ
-number symbol = symbol .0
 
 -- no bucket is wrong
 nine : (c : tie.Else1) → let t = table-of (c .before .before .before .before .before .before) in lowest (bucketRight t)

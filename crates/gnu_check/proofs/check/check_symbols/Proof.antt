@@ -1,13 +1,11 @@
 -- `gnu_check::check::check_symbols` meets its contract: each return is the law of its answer. Assumes nothing.
-use Prim.Native.Nat.{ℕ}
 use mathlib.Core.Path.{_≡_, sym, ap, _∙_}
 use mathlib.Core.Option.{none}
 use borrow.Author.Needs.{needs}
-use Rattle.symbol.specs.declared.table.SymbolIndex.{SymbolIndex}
 use Rattle.gnu_table.specs.Table.{GnuTable, hashed}
 use Rattle.gnu_rules.specs.Rules.{nameReadable, valueIsHash, bloomBitsSet, lowest}
 use Rattle.gnu_table.specs.Layout.{tableWith}
-use Rattle.gnu_check.proofs.Judged.{lowest-at, lowest-nowhere, bits-search, all-kept, from-names-6, from-names-7, from-names-8, from-names-kept}
+use Rattle.gnu_check.proofs.Judged.{number, lowest-at, lowest-nowhere, bits-search, all-kept, from-names-6, from-names-7, from-names-8, from-names-kept}
 use Rattle.gnu_check.proofs.check.check_symbols.Statement.{statement}
 use Rattle.gnu_check.proofs.check.check_symbols.Tie as tie
 
@@ -16,10 +14,6 @@ abbrev table-of : tie.Start → GnuTable
 table-of c =
     let a = c .args in
     tableWith (a .class) (a .order) (a .table .now) (a .symbols .now) (a .strings .now) (a .layout) (a .count)
-
--- the number of a symbol
-abbrev number : SymbolIndex → ℕ
-number symbol = symbol .0
 
 -- every name can be read, and every value is right
 six : (c : tie.Else1) → lowest (nameReadable (table-of (c .before .before .before .before .before .before)))
