@@ -21,10 +21,10 @@ use Rattle.endian.specs.First.{first, readable}
 use Rattle.endian.specs.Refusals.{noteShort, badNoteDescriptor, badProperty}
 use Rattle.endian.specs.Word.{wordAt}
 use Rattle.gnu.specs.Find.{gnuFind}
-use Rattle.gnu.specs.Lookup.{startOf, lookup}
+use Rattle.gnu.specs.Lookup.{startOf, gnuLookup}
 use Rattle.gnu_table.specs.Table.{bloomFirst, bloomSecond, bloomFilter}
 use Rattle.gnu_rules.specs.declared.Checked.the-variants.{Accepted}
-use Rattle.gnu_rules.specs.Rules.{gnuCheck, powerOfTwo, hashOf, isLast, findings, longest, verdict}
+use Rattle.gnu_rules.specs.Rules.{gnuCheck, powerOfTwo, gnuHashAt, isLast, findings, longest, verdict}
 use Rattle.lookup.specs.declared.Answer.{Answer}
 use Rattle.lookup.specs.declared.Answer.the-variants.{Found, Missing}
 use Rattle.lookup.specs.Wanted.{nameOf, wantedIn}
@@ -85,7 +85,7 @@ gnu-strings = 0 ∷ (a ++ (0 ∷ []))
 
 -- bloom 65600: accepted
 gnu-accepted : (order : Order) → gnuCheck Elf32 order (gnu-table order 65600) (gnu-symbols order) gnu-strings ≡ Accepted 1
-unfolding zeros four fours gnu-table gnu-symbols gnu-strings gnuCheck gnuHash powerOfTwo hashOf bloomFirst bloomSecond isLast findings longest verdict nameOf symbolAt readable first wordAt
+unfolding zeros four fours gnu-table gnu-symbols gnu-strings gnuCheck gnuHash powerOfTwo gnuHashAt bloomFirst bloomSecond isLast findings longest verdict nameOf symbolAt readable first wordAt
 gnu-accepted Little = refl
 gnu-accepted Big = refl
 
@@ -108,7 +108,7 @@ gnu-lookups : (order : Order)
     → (gnu-find order 65600 a ≡ Found (symbolIndex 1) 1)
     × (gnu-find order 65600 b ≡ Missing 0)
     × (gnu-find order 0xffff_ffff b ≡ Missing 1)
-unfolding zeros four fours gnu-table gnu-symbols gnu-strings gnu-find gnuFind gnuHash lookup bloomFilter bloomFirst bloomSecond startOf wantedIn nameOf symbolAt readable first wordAt storedAt valid entryAt versymAt matching
+unfolding zeros four fours gnu-table gnu-symbols gnu-strings gnu-find gnuFind gnuHash gnuLookup bloomFilter bloomFirst bloomSecond startOf wantedIn nameOf symbolAt readable first wordAt storedAt valid entryAt versymAt matching
 gnu-lookups Little = (refl, refl, refl)
 gnu-lookups Big = (refl, refl, refl)
 

@@ -1,12 +1,12 @@
 -- The definitions of a name, among all symbols.
 --     isDefined        whether a symbol that was looked for is there and is not undefined
---     noVersion        whether a versym says that the definition has no version: its index is special
+--     hasNoVersion     whether a versym says that the definition has no version: its index is special
 --     meant            whether a definition with this versym is one of those that are meant
 --     definesIn        whether a symbol bears the name, is not undefined, and is one of those that are meant
 --     countIn          how many of the numbers 1 to n - 1 pass a test
 --     definitionsOf    how many symbols but the null one are such definitions
 -- Assumes nothing.
-use Prim.Native.Nat.{ℕ, _-_, _/_}
+use Prim.Native.Nat.{ℕ, _-_}
 use mathlib.Core.Bool.{Bool, true, false, cond, not, _&&_}
 use mathlib.Core.List.{List, [], _∷_}
 use lib.ListN.{length}
@@ -32,13 +32,13 @@ abbrev pub isDefined : SymbolAt → Bool
 isDefined (At symbol) = not (isUndefined symbol)
 isDefined (Symbol·Refused r) = false
 
-abbrev pub noVersion : VersymAt → Bool
-noVersion (Versym·At versym) = isSpecial (versym .index)
-noVersion (Versym·Refused r) = false
+abbrev pub hasNoVersion : VersymAt → Bool
+hasNoVersion (Versym·At versym) = isSpecial (versym .index)
+hasNoVersion (Versym·Refused r) = false
 
 abbrev pub meant : Which → VersymAt → Bool
 meant All versym = true
-meant Unversioned versym = noVersion versym
+meant Unversioned versym = hasNoVersion versym
 
 unfoldable pub definesIn : Class → Order → (symbols strings versyms name : List ℕ) → Which → ℕ → Bool
 definesIn class order symbols strings versyms name which i =

@@ -16,7 +16,7 @@ ghost use mathlib.Core.Bool.{cond};
 ghost use mathlib.Core.Path.{_≡_};
 ghost use Rattle.symbol.specs.Table.{symbolAt};
 ghost use Rattle.version.specs.Table.{versymAt};
-ghost use Rattle.definitions.specs.Definitions.{isDefined, noVersion, definesIn, countIn, definitionsOf};
+ghost use Rattle.definitions.specs.Definitions.{isDefined, hasNoVersion, definesIn, countIn, definitionsOf};
 
 // Which definitions of a name are meant: all, or those without a version, whose index is special.
 pub enum Which {
@@ -39,7 +39,7 @@ fn is_defined(class: Class, order: Order, symbols: &[u8], symbol: SymbolIndex) -
 }
 
 fn has_no_version(order: Order, versyms: &[u8], symbol: SymbolIndex) -> bool
-    ensures { λ r. ⌜ r ≡ noVersion (versymAt order (now (versyms .entry)) symbol) ⌝ }
+    ensures { λ r. ⌜ r ≡ hasNoVersion (versymAt order (now (versyms .entry)) symbol) ⌝ }
 {
     match version_of(order, versyms, symbol) {
         VersymAt::At(versym) => versym.index.is_special(),

@@ -13,10 +13,10 @@ use Rattle.lookup.specs.declared.Answer.the-variants.{Missing, Refused}
 use Rattle.lookup.specs.Wanted.{walk}
 use Rattle.lookup.proofs.Picking.{by-test, and-left, and-right}
 use Rattle.gnu_table.specs.declared.filter.Bloom.the-variants.{Passes, Stops, Refuses}
-use Rattle.gnu_table.specs.Table.{Table, bloomFilter, valueOf, sameButLow}
-use Rattle.gnu.specs.Lookup.{starts, startOf, chain, lookup}
+use Rattle.gnu_table.specs.Table.{GnuTable, bloomFilter, valueOf, sameButLow}
+use Rattle.gnu.specs.Lookup.{starts, startOf, gnuChain, gnuLookup}
 
-module _ (t : Table) (h : ℕ) where
+module _ (t : GnuTable) (h : ℕ) where
   pub start-none : t .bucketCount ≡ 0 → startOf t h ≡ 0
   unfolding startOf
   start-none e = rw (eq-eqb (t .bucketCount) 0 e)
@@ -64,19 +64,19 @@ module _ (t : Table) (h : ℕ) where
       (λ s. rw (e, s) (starts-range (t .bucket (h % t .bucketCount)) s)) (λ s. absurd (apart (rw (e, s)))))
 
   module _ (wanted : ℕ → Bool) where
-    pub lookup-stops : bloomFilter t h ≡ Stops → lookup t h wanted ≡ Missing 0
-    unfolding lookup
+    pub lookup-stops : bloomFilter t h ≡ Stops → gnuLookup t h wanted ≡ Missing 0
+    unfolding gnuLookup
     lookup-stops e = rw e
 
-    pub lookup-refuses : bloomFilter t h ≡ Refuses → lookup t h wanted ≡ Refused badBloomShift
-    unfolding lookup
+    pub lookup-refuses : bloomFilter t h ≡ Refuses → gnuLookup t h wanted ≡ Refused badBloomShift
+    unfolding gnuLookup
     lookup-refuses e = rw e
 
-    pub lookup-nowhere : bloomFilter t h ≡ Passes → startOf t h ≡ 0 → lookup t h wanted ≡ Missing 0
-    unfolding lookup
+    pub lookup-nowhere : bloomFilter t h ≡ Passes → startOf t h ≡ 0 → gnuLookup t h wanted ≡ Missing 0
+    unfolding gnuLookup
     lookup-nowhere e none-there = rw (e, none-there)
 
     pub lookup-walks : bloomFilter t h ≡ Passes → (v : ℕ) → startOf t h ≡ v → (v ≡ 0 → ⊥)
-        → lookup t h wanted ≡ walk (λ i. sameButLow (valueOf t i) h && wanted i) (chain t v)
-    unfolding lookup
+        → gnuLookup t h wanted ≡ walk (λ i. sameButLow (valueOf t i) h && wanted i) (gnuChain t v)
+    unfolding gnuLookup
     lookup-walks e v start apart = rw (e, start, ne-eqb v 0 apart)

@@ -22,9 +22,9 @@ use Rattle.lookup.proofs.Picking.{and-right}
 use Rattle.lookup.proofs.Distinct.{Same, wanted-named, wanted-fits, wanted-one, walk-wanted}
 use Rattle.gnu_table.specs.declared.filter.Bloom.{Bloom}
 use Rattle.gnu_table.specs.declared.filter.Bloom.the-variants.{Passes, Stops, Refuses}
-use Rattle.gnu_table.specs.Table.{Table, valueOf, sameButLow, bloomFilter}
-use Rattle.gnu_table.specs.Layout.{fault}
-use Rattle.gnu.specs.Lookup.{chain, startOf, filtered, lookup}
+use Rattle.gnu_table.specs.Table.{GnuTable, valueOf, sameButLow, bloomFilter}
+use Rattle.gnu_table.specs.Header.{gnuFault}
+use Rattle.gnu.specs.Lookup.{gnuChain, startOf, filtered, gnuLookup}
 use Rattle.gnu.specs.Find.{gnuTable, gnuFind}
 
 module _ (i probes : ℕ) where
@@ -46,13 +46,13 @@ module _ (i probes : ℕ) where
   past-fault none a h = h
   past-fault (some r) a h = cc
 
-  lookup-wanted : (t : Table) (h : ℕ) (match : ℕ → Bool) → lookup t h match ≡ Found (symbolIndex i) probes → match i ≡ true
-  unfolding lookup
+  lookup-wanted : (t : GnuTable) (h : ℕ) (match : ℕ → Bool) → gnuLookup t h match ≡ Found (symbolIndex i) probes → match i ≡ true
+  unfolding gnuLookup
   lookup-wanted t h match e =
       let tested : ℕ → Bool = λ j. sameButLow (valueOf t j) h && match j in
       let s = startOf t h in
       let walked = past-missing (eqb s 0) 0 _ (past-filter (bloomFilter t h) _ e) in
-      and-right (sameButLow (valueOf t i) h) (match i) (walk-wanted tested (chain t s) i probes walked)
+      and-right (sameButLow (valueOf t i) h) (match i) (walk-wanted tested (gnuChain t s) i probes walked)
 
 module _ (class : Class) (order : Order) (p : Parts) where
   module _ (asked : Asked) (hash i probes : ℕ) (found : gnuFind class order p asked hash ≡ Found (symbolIndex i) probes) where
@@ -60,7 +60,7 @@ module _ (class : Class) (order : Order) (p : Parts) where
     unfolding gnuFind
     find-wanted =
         lookup-wanted i probes (gnuTable class order p) hash (wanted class order p asked)
-        (past-fault i probes (fault class order (p .table)) _ (past-long i probes (anyLong (allParts p asked)) _ found))
+        (past-fault i probes (gnuFault class order (p .table)) _ (past-long i probes (anyLong (allParts p asked)) _ found))
 
     pub find-named : nameOf class order (p .symbols) (p .strings) i ≡ some (asked .name)
     find-named = wanted-named class order p asked i find-wanted

@@ -16,15 +16,15 @@ use Rattle.symbol.specs.Table.{symbolIndex}
 use Rattle.lookup.specs.declared.Answer.{Answer}
 use Rattle.lookup.specs.declared.Answer.the-variants.{Found, Missing}
 use Rattle.lookup.specs.Pick.{from, firstOf, upTo}
-use Rattle.lookup.specs.Wanted.{answerOf, walk}
+use Rattle.lookup.specs.Wanted.{answerAfter, walk}
 use Rattle.lookup.proofs.Picking.{from-cons}
 
 module _ (match ends : ℕ → Bool) where
   abbrev pub walkFrom : ℕ → List ℕ → Answer
-  walkFrom n xs = answerOf (firstOf match (upTo ends xs)) (n + length (upTo match (upTo ends xs)))
+  walkFrom n xs = answerAfter (firstOf match (upTo ends xs)) (n + length (upTo match (upTo ends xs)))
 
   pub walkFrom-start : (xs : List ℕ) → walkFrom 0 xs ≡ walk match (upTo ends xs)
-  walkFrom-start xs = ap (answerOf (firstOf match (upTo ends xs))) (zero-add (length (upTo match (upTo ends xs))))
+  walkFrom-start xs = ap (answerAfter (firstOf match (upTo ends xs))) (zero-add (length (upTo match (upTo ends xs))))
 
   pub walkFrom-none : (n e : ℕ) → walkFrom n (from e (e - e)) ≡ Missing n
   walkFrom-none n e = rw (sub-self, add-zero)
@@ -41,4 +41,4 @@ module _ (match ends : ℕ → Bool) where
     walkFrom-on m l =
         let rest = upTo ends (from (i + 1) (e - (i + 1))) in
         let one-more : n + suc (length (upTo match rest)) ≡ n + 1 + length (upTo match rest) = omega arith in
-        rw (from-cons i e more, m, l) (ap (answerOf (firstOf match rest)) one-more)
+        rw (from-cons i e more, m, l) (ap (answerAfter (firstOf match rest)) one-more)

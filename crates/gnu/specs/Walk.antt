@@ -1,4 +1,5 @@
--- The walk over pairs (01, "Lookups"), of places in the bytes.
+-- Need not be believed: the walk over pairs (01, "Lookups"), of places in the bytes. The contract of an inner function cites
+-- it, and proofs show that it is the walk of `gnuLookup`.
 --     pairMatches    whether a symbol's pair is the one that is looked for
 --     walkPairs      the walk over the pairs of symbols start to end - 1
 -- Assumes nothing.
@@ -10,7 +11,7 @@ use Rattle.lookup.specs.declared.Answer.{Answer}
 use Rattle.lookup.specs.Pick.{from, upTo}
 use Rattle.lookup.specs.Wanted.{Parts, Asked, wanted, walk}
 use Rattle.gnu_table.specs.Table.{sameButLow}
-use Rattle.gnu_table.specs.Header.{valueAt, pairEnds}
+use Rattle.gnu_table.specs.Places.{valueAt, pairEnds}
 
 abbrev pub pairMatches : Class → Order → Parts → Asked → (hash valuesAt base : ℕ) → ℕ → Bool
 pairMatches class order p asked hash valuesAt base i =

@@ -20,8 +20,8 @@ ghost use mathlib.Core.Path.{_≡_};
 ghost use mathlib.Core.List.{[], _∷_};
 ghost use Rattle.endian.specs.Refusals.{anyLong};
 ghost use Rattle.lookup.specs.Wanted.{wanted};
-ghost use Rattle.gnu_table.specs.Header.{tableAt};
-ghost use Rattle.gnu.specs.Lookup.{lookup as lookupOf};
+ghost use Rattle.gnu_table.specs.Places.{tableAt};
+ghost use Rattle.gnu.specs.Lookup.{gnuLookup};
 ghost use Rattle.gnu.specs.Find.{gnuFind};
 
 // Whether one of the parts that are only compared is too long.
@@ -69,7 +69,7 @@ fn lookup_at(
     count: u32,
 ) -> Answer
     ensures { λ r. ⌜ r
-        ≡ lookupOf (tableAt class order (now (table .entry)) layout count) hash
+        ≡ gnuLookup (tableAt class order (now (table .entry)) layout count) hash
         (wanted class order
         (record {
           table = now (table .entry);

@@ -4,7 +4,7 @@ use endian::kinds::Order;
 use gnu_table::header::Layout;
 use gnu_table::words::word_of;
 ghost use mathlib.Core.Path.{_≡_};
-ghost use Rattle.gnu_table.specs.Header.{tableAt};
+ghost use Rattle.gnu_table.specs.Places.{tableAt};
 ghost use Rattle.gnu.specs.Lookup.{startOf};
 
 // The first symbol of the hash's bucket, or 0 where there is no bucket, or its value is 0, past the

@@ -1,13 +1,14 @@
 -- The checker's answer, step by step.
 --     judge-header, header-broken, header-kept    the answer by G1 to G5; what a table keeps that breaks none of them
---     bits-search                             what the bloom filter says of G8
---     from-names-6, -7, -8, -kept             the answer by G6 to G8
---     wrong-bucket, right-buckets             what the pass over the buckets says of G9
---     ends-search                             what the pass by the next symbol looks for
---     from-buckets-9, -10, -accepted          the answer by G9 and G10
---     checkFrom, check-told                   the answer by what was read of the parts
+--     number                                      the number of a symbol that a pass answers
+--     bits-search                                 what the bloom filter says of G8
+--     from-names-6, -7, -8, -kept                 the answer by G6 to G8
+--     wrong-bucket, right-buckets                 what the pass over the buckets says of G9
+--     ends-search                                 what the pass by the next symbol looks for
+--     from-buckets-9, -10, -accepted              the answer by G9 and G10
+--     checkFrom, check-told                       the answer by what was read of the parts
 -- Assumes nothing.
-use Prim.Native.Nat.{ℕ, zero, suc, _+_, _-_, _/_, _≤_, _<_}
+use Prim.Native.Nat.{ℕ, zero, suc, _+_, _-_, _≤_, _<_}
 use mathlib.Core.Path.{_≡_, refl, sym, ap, _∙_}
 use mathlib.Core.Bool.{Bool, true, false, cond, not, _&&_, Bool·beq}
 use mathlib.Core.List.{List, [], _∷_, map}
@@ -22,17 +23,18 @@ use Rattle.endian.specs.declared.kinds.Order.{Order}
 use Rattle.endian.specs.declared.refusals.Refusal.{Refusal}
 use Rattle.endian.specs.Refusals.{limit, tooLong, unlessRefused}
 use Rattle.symbol.specs.declared.table.SymbolCount.{SymbolCount}
-use Rattle.symbol.specs.Table.{symbolSize, symbolCount}
+use Rattle.symbol.specs.declared.table.SymbolIndex.{SymbolIndex}
+use Rattle.symbol.specs.Table.{symbolsIn, symbolCount}
 use Rattle.lookup.specs.Pick.{from, largest}
 use Rattle.lookup.proofs.Picking.{All, all-from, firstOf-cong, by-test, and-right, beq-eq}
 use Rattle.gnu_table.specs.declared.header.HeaderAt.{HeaderAt}
 use Rattle.gnu_table.specs.declared.header.Layout.{Layout}
-use Rattle.gnu_table.specs.Table.{Table, hashed, valueOf, odd}
-use Rattle.gnu_table.specs.Layout.{fault}
-use Rattle.gnu_table.specs.Header.{layoutOf, headerAnswer, gnuHeader, tableWith}
+use Rattle.gnu_table.specs.Table.{GnuTable, hashed, valueOf, odd}
+use Rattle.gnu_table.specs.Header.{gnuFault, layoutOf, gnuHeader}
+use Rattle.gnu_table.specs.Layout.{tableWith}
 use Rattle.gnu_rules.specs.declared.Checked.{Checked}
 use Rattle.gnu_rules.specs.declared.Checked.the-variants.{Accepted, Broken, Refused}
-use Rattle.gnu_rules.specs.Rules.{bucketOf, powerOfTwo, baseWithin, bloomCountPower, someBucket, shiftWithin, enoughValues, nameReadable, valueIsHash, bloomBitsSet, bucketRight, endsAtLast, whole, lowest, findings, longest, verdict, check, gnuCheck}
+use Rattle.gnu_rules.specs.Rules.{gnuBucketOf, powerOfTwo, baseWithin, someBucket, shiftWithin, enoughValues, nameReadable, valueIsHash, bloomBitsSet, bucketRight, endsAtLast, whole, lowest, findings, longest, verdict, gnuTableCheck, gnuCheck}
 use Rattle.gnu_rules.proofs.Kept.{power-low, lowest-none}
 use Rattle.lookup.specs.Search.{firstFrom}
 use Rattle.gnu_rules.specs.HeaderRules.{firstBroken, brokenHeader}
@@ -73,13 +75,13 @@ all-five true true true false g5 h = absurd (omega arith)
 all-five true true true true g5 h = (refl, refl, refl, refl)
 
 module _ (class : Class) (order : Order) (table symbols strings : List ℕ) (layout : Layout) (count : ℕ) where
-  abbrev t : Table
+  abbrev t : GnuTable
   t = tableWith class order table symbols strings layout count
 
-  judge-header : check t ≡ afterHeader (brokenHeader layout count) (fromNames t)
+  judge-header : gnuTableCheck t ≡ afterHeader (brokenHeader layout count) (fromNames t)
   unfolding brokenHeader fromNames findings
   judge-header =
-      judge (baseWithin t) (bloomCountPower t) (someBucket t) (shiftWithin t) (enoughValues t) (longest t)
+      judge (baseWithin t) (powerOfTwo (t .bloomCount)) (someBucket t) (shiftWithin t) (enoughValues t) (longest t)
       (lowest (nameReadable t) (hashed t) ∷
       lowest (valueIsHash t) (hashed t) ∷
       lowest (bloomBitsSet t) (hashed t) ∷
@@ -87,11 +89,11 @@ module _ (class : Class) (order : Order) (table symbols strings : List ℕ) (lay
       lowest (endsAtLast t) (hashed t) ∷
       [])
 
-  pub header-broken : (n : ℕ) → n ≡ brokenHeader layout count → ¬ (n ≡ 0) → Broken n 0 ≡ check t
+  pub header-broken : (n : ℕ) → n ≡ brokenHeader layout count → ¬ (n ≡ 0) → Broken n 0 ≡ gnuTableCheck t
   header-broken zero is broken = absurd (broken refl)
   header-broken (suc n) is broken = sym (judge-header ∙ ap (λ k. afterHeader k (fromNames t)) (sym is))
 
-  pub header-kept : (n : ℕ) → n ≡ brokenHeader layout count → n ≡ 0 → fromNames t ≡ check t
+  pub header-kept : (n : ℕ) → n ≡ brokenHeader layout count → n ≡ 0 → fromNames t ≡ gnuTableCheck t
   header-kept n is none-broken = sym (judge-header ∙ ap (λ k. afterHeader k (fromNames t)) (sym is ∙ none-broken))
 
 pub header-sound : (layout : Layout) (count n : ℕ) → n ≡ brokenHeader layout count → n ≡ 0 → Sound layout count
@@ -109,7 +111,11 @@ header-sound layout count n is none-broken =
 
 -- ---- G6 to G8
 
-module _ (t : Table) (within : t .base ≤ t .count) where
+-- the number of a symbol
+abbrev pub number : SymbolIndex → ℕ
+number symbol = symbol .0
+
+module _ (t : GnuTable) (within : t .base ≤ t .count) where
   -- an answer of a pass that looks for a broken rule
   module _ (kept : ℕ → Bool) (r : ℕ) (answer : r ≡ firstFrom (λ i. not (kept i)) (t .base) (t .count)) where
     pub lowest-at : ¬ (r ≡ t .count) → lowest kept (hashed t) ≡ some r
@@ -130,7 +136,7 @@ module _ (t : Table) (within : t .base ≤ t .count) where
   pub all-kept : (kept : ℕ → Bool) → lowest kept (hashed t) ≡ none → (i : ℕ) → t .base ≤ i → i < t .count → kept i ≡ true
   all-kept kept none-broken i lo hi = lowest-none kept (t .base) (t .count - t .base) none-broken i lo (omega arith)
 
-module _ (t : Table) where
+module _ (t : GnuTable) where
   pub from-names-6 : (i : ℕ) → lowest (nameReadable t) (hashed t) ≡ some i → fromNames t ≡ Broken 6 i
   unfolding fromNames verdict
   from-names-6 i six = rw six
@@ -160,7 +166,7 @@ map-same : (f g : ℕ → ℕ) (xs : List ℕ) → All (λ x. f x ≡ g x) xs �
 map-same f g [] h = refl
 map-same f g (x ∷ xs) h = rw (h .0, map-same f g xs (h .1))
 
-module _ (t : Table) (some-bucket : 1 ≤ t .bucketCount) where
+module _ (t : GnuTable) (some-bucket : 1 ≤ t .bucketCount) where
   module _ (right : (i : ℕ) → t .base ≤ i → i < t .count → valueIsHash t i ≡ true) (r : ℕ) (answer : r ≡ wrongBucket t) where
     as-search : r ≡ firstFrom (λ b. not (bucketRight t b)) 0 (t .bucketCount)
     unfolding firstFrom wrongBucket
@@ -213,12 +219,12 @@ module _ (t : Table) (some-bucket : 1 ≤ t .bucketCount) where
           let here = t .base + k in
           let place : here - t .base ≡ k = omega arith in
           let next : suc here ≡ t .base + suc k = omega arith in
-          let bit : odd (t .value k) ≡ not (eqb (bucketOf t here) (bucketOf t (t .base + suc k))) =
+          let bit : odd (t .value k) ≡ not (eqb (gnuBucketOf t here) (gnuBucketOf t (t .base + suc k))) =
           sym (ap (λ i. odd (t .value i)) place)
           ∙ (rw (next, lt-ltb (t .base + suc k) (t .count) low) at (ended here (omega arith) (omega arith)))
-          ∙ ap not (eqb-swap (bucketOf t (t .base + suc k)) (bucketOf t here)) in
+          ∙ ap not (eqb-swap (gnuBucketOf t (t .base + suc k)) (gnuBucketOf t here)) in
           rw (bit, starts-same k (omega arith))
-          (by-test (eqb (bucketOf t here) (bucketOf t (t .base + suc k))) (λ e. rw e) (λ e. rw e))
+          (by-test (eqb (gnuBucketOf t here) (gnuBucketOf t (t .base + suc k))) (λ e. rw e) (λ e. rw e))
 
       chain-is : longestChain (t .base) (t .value) (t .count) ≡ longestRun t
       chain-is =
@@ -246,7 +252,7 @@ any-order : (tableLong symbolsLong stringsLong : Bool) (o : Option Refusal) (n :
     → cond (cond tableLong true (cond symbolsLong true (cond stringsLong true false))) (Refused tooLong)
     (unlessRefused Checked.Refused o (look layout n))
     ≡ checkFrom stringsLong (cond symbolsLong (SymbolCount.Refused tooLong) (SymbolCount.Symbols n))
-    (cond tableLong (HeaderAt.Refused tooLong) (headerAnswer o layout)) look
+    (cond tableLong (HeaderAt.Refused tooLong) (unlessRefused HeaderAt.Refused o (HeaderAt.At layout))) look
 any-order true true true o n layout look = refl
 any-order true true false o n layout look = refl
 any-order true false true o n layout look = refl
@@ -260,17 +266,17 @@ any-order false false false (some r) n layout look = refl
 check-from : (class : Class) (order : Order) (table symbols strings : List ℕ)
     → gnuCheck class order table symbols strings
     ≡ checkFrom (ltb limit (length strings)) (symbolCount class symbols) (gnuHeader class order table)
-    (λ layout count. check (tableWith class order table symbols strings layout count))
+    (λ layout count. gnuTableCheck (tableWith class order table symbols strings layout count))
 unfolding gnuCheck gnuHeader
 check-from class order table symbols strings =
-    any-order (ltb limit (length table)) (ltb limit (length symbols)) (ltb limit (length strings)) (fault class order table)
-    (length symbols / symbolSize class) (layoutOf class order table)
-    (λ layout count. check (tableWith class order table symbols strings layout count))
+    any-order (ltb limit (length table)) (ltb limit (length symbols)) (ltb limit (length strings)) (gnuFault class order table)
+    (symbolsIn class symbols) (layoutOf class order table)
+    (λ layout count. gnuTableCheck (tableWith class order table symbols strings layout count))
 
 -- the same, told what was read
 module _ (class : Class) (order : Order) (table symbols strings : List ℕ) where
   abbrev look : Layout → ℕ → Checked
-  look layout count = check (tableWith class order table symbols strings layout count)
+  look layout count = gnuTableCheck (tableWith class order table symbols strings layout count)
 
   pub check-told : (long : Bool) (counted : SymbolCount) (head : HeaderAt)
       → ltb limit (length strings) ≡ long → counted ≡ symbolCount class symbols → head ≡ gnuHeader class order table

@@ -1,35 +1,35 @@
 -- After G7, the value of a symbol rules out no bucket that the symbol is in: `stray` is then `plainStray`.
 -- Assumes nothing.
-use Prim.Native.Nat.{ℕ, _+_, _-_, _*_, _/_, _%_, _≤_, _<_}
+use Prim.Native.Nat.{ℕ, _+_, _*_, _/_, _%_, _≤_, _<_}
 use mathlib.Core.Path.{_≡_, sym, ap, _∙_}
-use mathlib.Core.Bool.{Bool, true, false, not, _&&_, _||_, or-true, and-false, true≢false}
+use mathlib.Core.Bool.{true, false, not, _&&_, or-true, and-false, true≢false}
 use native.Mathlib.Omega.{arith}
 use lib.Dec.{leb, ltb, eqb}
 use borrow.Author.Tests.{leb-true, ltb-true, eqb-true, eqb-false, eq-eqb}
 use Rattle.lookup.proofs.Picking.{by-test, and-left, and-right}
-use Rattle.gnu_table.specs.Table.{Table, valueOf}
-use Rattle.gnu_rules.specs.Rules.{hashOf, bucketOf, inBucket, valueIsHash}
+use Rattle.gnu_table.specs.Table.{GnuTable, valueOf}
+use Rattle.gnu_rules.specs.Rules.{gnuHashAt, gnuBucketOf, inBucket, valueIsHash}
 use Rattle.gnu_check_buckets.specs.Runs.{mayBe, begins, stray}
 use Rattle.gnu_check.proofs.Starts.{plainBegins, plainStray}
 
 -- a symbol whose value rules a bucket out is of another
-may-not : (t : Table) (b v : ℕ) → valueIsHash t v ≡ true → mayBe (valueOf t v) (t .bucketCount) b ≡ false
-    → ¬ (bucketOf t v ≡ b)
+may-not : (t : GnuTable) (b v : ℕ) → valueIsHash t v ≡ true → mayBe (valueOf t v) (t .bucketCount) b ≡ false
+    → ¬ (gnuBucketOf t v ≡ b)
 may-not t b v right ruled-out mine =
-    let half = eqb-true (valueOf t v / 2) (hashOf t v / 2) right in
-    by-test (eqb (hashOf t v % 2) 0)
-    (λ e. let even = eqb-true (hashOf t v % 2) 0 e in
-    let z : hashOf t v ≡ valueOf t v / 2 * 2 = omega arith in
+    let half = eqb-true (valueOf t v / 2) (gnuHashAt t v / 2) right in
+    by-test (eqb (gnuHashAt t v % 2) 0)
+    (λ e. let even = eqb-true (gnuHashAt t v % 2) 0 e in
+    let z : gnuHashAt t v ≡ valueOf t v / 2 * 2 = omega arith in
     let yes : eqb (valueOf t v / 2 * 2 % t .bucketCount) b ≡ true =
     eq-eqb (valueOf t v / 2 * 2 % t .bucketCount) b (ap (λ h. h % t .bucketCount) (sym z) ∙ mine) in
     true≢false (rw yes at ruled-out))
-    (λ e. let odd = eqb-false (hashOf t v % 2) 0 e in
-    let z : hashOf t v ≡ valueOf t v / 2 * 2 + 1 = omega arith in
+    (λ e. let odd = eqb-false (gnuHashAt t v % 2) 0 e in
+    let z : gnuHashAt t v ≡ valueOf t v / 2 * 2 + 1 = omega arith in
     let yes : eqb ((valueOf t v / 2 * 2 + 1) % t .bucketCount) b ≡ true =
     eq-eqb ((valueOf t v / 2 * 2 + 1) % t .bucketCount) b (ap (λ h. h % t .bucketCount) (sym z) ∙ mine) in
     true≢false (rw (yes, or-true) at ruled-out))
 
-module _ (t : Table) (right : (i : ℕ) → t .base ≤ i → i < t .count → valueIsHash t i ≡ true) where
+module _ (t : GnuTable) (right : (i : ℕ) → t .base ≤ i → i < t .count → valueIsHash t i ≡ true) where
   begins-plain : (b v : ℕ) → begins t b v ≡ plainBegins t b v
   begins-plain b v =
       by-test (leb (t .base) v && ltb v (t .count))

@@ -8,7 +8,7 @@
 -- Assumes nothing.
 use mathlib.Core.Path.{_≡_, refl, sym, ap, _∙_, subst, subst₂}
 use mathlib.Core.Bool.{Bool, true, false, not, _&&_, _||_, false≢true, and-false}
-use mathlib.Core.Logic.{_⊎_, ⊎-elim}
+use mathlib.Core.Logic.{⊎-elim}
 use mathlib.Core.List.{List, [], _∷_}
 use Prim.Native.Nat.{ℕ, zero, suc, _+_, _-_, _≤_, _<_}
 use native.Mathlib.Omega.{arith}
@@ -17,19 +17,19 @@ use lib.Dec.{leb, ltb, eqb}
 use lib.ListN.{length}
 use borrow.Author.Tests.{leb-true, ltb-true, eqb-true, eqb-false, eq-eqb, ne-eqb, le-leb, lt-ltb}
 use Rattle.lookup.specs.Pick.{from, select}
-use Rattle.gnu_table.specs.Table.{Table}
-use Rattle.gnu_rules.specs.Rules.{bucketOf, inBucket, members, holds, bucketRight}
+use Rattle.gnu_table.specs.Table.{GnuTable}
+use Rattle.gnu_rules.specs.Rules.{gnuBucketOf, inBucket, members, holds, bucketRight}
 use Rattle.gnu_check_buckets.specs.Runs.{runStart}
 use Rattle.gnu_rules.proofs.Members.{holds-run, run-holds, all-members, no-member, inside, outside}
 use Rattle.lookup.proofs.Picking.{All, all-from, from-append, select-append, select-none, select-front, by-test, and-left, and-right, not-none}
 
-module _ (t : Table) where
+module _ (t : GnuTable) where
   -- s is where the run of bucket b that holds symbol i starts
   pub record Start (b s i : ℕ) : Type 0 where
     pub low : t .base ≤ s
     pub high : s ≤ i
-    pub same : (j : ℕ) → s ≤ j → j ≤ i → bucketOf t j ≡ b
-    pub first-one : t .base < s → bucketOf t (s - 1) ≡ b → ⊥
+    pub same : (j : ℕ) → s ≤ j → j ≤ i → gnuBucketOf t j ≡ b
+    pub first-one : t .base < s → gnuBucketOf t (s - 1) ≡ b → ⊥
 
   -- a run has one start
   pub start-unique : (b s s' i : ℕ) → Start b s i → Start b s' i → s ≡ s'
@@ -38,33 +38,33 @@ module _ (t : Table) where
       let earlier : ¬ (s' < s) = λ h. p .first-one (omega arith) (q .same (s - 1) (omega arith) (omega arith)) in
       omega arith
 
-  run-start : (k : ℕ) → Start (bucketOf t (t .base + k)) (runStart t k) (t .base + k)
+  run-start : (k : ℕ) → Start (gnuBucketOf t (t .base + k)) (runStart t k) (t .base + k)
   unfolding runStart
   run-start zero =
       record {
         low = le-refl (t .base);
         high = omega arith;
-        same = λ j lo hi. let z : j ≡ t .base + 0 = omega arith in ap (bucketOf t) z;
+        same = λ j lo hi. let z : j ≡ t .base + 0 = omega arith in ap (gnuBucketOf t) z;
         first-one = λ more. absurd (omega arith);
       }
   run-start (suc k) =
-      by-test (eqb (bucketOf t (t .base + k)) (bucketOf t (t .base + suc k)))
+      by-test (eqb (gnuBucketOf t (t .base + k)) (gnuBucketOf t (t .base + suc k)))
       (λ e. let r = run-start k in let step = eqb-true _ _ e in
       rw e (record {
         low = r .low;
         high = omega (arith, r .high);
-        same = λ j lo hi. ⊎-elim (λ z. ap (bucketOf t) z) (λ less. r .same j lo (omega arith) ∙ step) (eq-or-lt-of-le hi);
+        same = λ j lo hi. ⊎-elim (λ z. ap (gnuBucketOf t) z) (λ less. r .same j lo (omega arith) ∙ step) (eq-or-lt-of-le hi);
         first-one = λ more h. r .first-one more (h ∙ sym step);
       }))
       (λ e. rw e (record {
         low = omega arith;
         high = le-refl _;
-        same = λ j lo hi. let z : j ≡ t .base + suc k = omega arith in ap (bucketOf t) z;
+        same = λ j lo hi. let z : j ≡ t .base + suc k = omega arith in ap (gnuBucketOf t) z;
         first-one = λ more h. let z : t .base + suc k - 1
-            ≡ t .base + k = omega arith in eqb-false _ _ e (sym (ap (bucketOf t) z) ∙ h);
+            ≡ t .base + k = omega arith in eqb-false _ _ e (sym (ap (gnuBucketOf t) z) ∙ h);
       }))
 
-  pub start-of : (i : ℕ) → t .base ≤ i → Start (bucketOf t i) (runStart t (i - t .base)) i
+  pub start-of : (i : ℕ) → t .base ≤ i → Start (gnuBucketOf t i) (runStart t (i - t .base)) i
   start-of i lo = let z : t .base + (i - t .base) ≡ i = omega arith in rw z at (run-start (i - t .base))
 
   abbrev pub plainBegins : ℕ → ℕ → Bool
@@ -76,7 +76,7 @@ module _ (t : Table) where
   -- what the pass asks of bucket b
   pub record Right (b : ℕ) : Type 0 where
     pub own : plainStray b ≡ false
-    pub placed : (i : ℕ) → t .base ≤ i → i < t .count → bucketOf t i ≡ b → t .bucket b ≡ runStart t (i - t .base)
+    pub placed : (i : ℕ) → t .base ≤ i → i < t .count → gnuBucketOf t i ≡ b → t .bucket b ≡ runStart t (i - t .base)
 
   pub begins-start : (b v : ℕ) → plainBegins b v ≡ true → Start b v v × (v < t .count)
   begins-start b v h =
@@ -84,13 +84,13 @@ module _ (t : Table) where
       (inBucket t b v && (eqb v (t .base) || not (inBucket t b (v - 1)))) h in
       let rest = and-right (leb (t .base) v && ltb v (t .count))
       (inBucket t b v && (eqb v (t .base) || not (inBucket t b (v - 1)))) h in
-      let mine = eqb-true (bucketOf t v) b
+      let mine = eqb-true (gnuBucketOf t v) b
       (and-left (inBucket t b v) (eqb v (t .base) || not (inBucket t b (v - 1))) rest) in
       let before = and-right (inBucket t b v) (eqb v (t .base) || not (inBucket t b (v - 1))) rest in (
         record {
           low = leb-true _ _ (and-left (leb (t .base) v) (ltb v (t .count)) range);
           high = le-refl v;
-          same = λ j lo hi. let z : j ≡ v = omega arith in ap (bucketOf t) z ∙ mine;
+          same = λ j lo hi. let z : j ≡ v = omega arith in ap (gnuBucketOf t) z ∙ mine;
           first-one = λ more h'. absurd (false≢true (rw (ne-eqb v (t .base) (omega arith), eq-eqb _ _ h') at before));
         },
         ltb-true _ _ (and-right (leb (t .base) v) (ltb v (t .count)) range),
@@ -103,7 +103,7 @@ module _ (t : Table) where
       (λ e. let apart = eqb-false v (t .base) e in let low = r .low in rw (e, ne-eqb _ _ (r .first-one (omega arith)))))
 
   -- the symbols of a bucket that has any are a run from its value on
-  the-run : (b : ℕ) → Right b → (m : ℕ) → t .base ≤ m → m < t .count → bucketOf t m ≡ b
+  the-run : (b : ℕ) → Right b → (m : ℕ) → t .base ≤ m → m < t .count → gnuBucketOf t m ≡ b
       → members t b ≡ from (t .bucket b) (length (members t b))
   the-run b r m lo hi mine =
       let v = t .bucket b in

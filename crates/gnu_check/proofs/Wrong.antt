@@ -12,8 +12,8 @@ use native.Mathlib.Omega.{arith}
 use native.Mathlib.Nat.{le-refl, mod-lt, eq-or-lt-of-le}
 use borrow.Author.Tests.{eqb-true, eq-eqb, not-true}
 use Rattle.lookup.specs.Pick.{from, firstOf}
-use Rattle.gnu_table.specs.Table.{Table, hashed}
-use Rattle.gnu_rules.specs.Rules.{hashOf, bucketOf, inBucket, valueIsHash, lowest, bucketRight}
+use Rattle.gnu_table.specs.Table.{GnuTable, hashed}
+use Rattle.gnu_rules.specs.Rules.{gnuHashAt, gnuBucketOf, inBucket, valueIsHash, lowest, bucketRight}
 use Rattle.gnu_check_buckets.specs.Runs.{lesser, misplaced, stray, leastMisplaced, leastWrong}
 use Rattle.lookup.proofs.Picking.{all-from, from-all, firstOf-cong, none-firstOf, firstOf-lowest, by-test, and-left, and-right, not-none}
 use Rattle.gnu_check.proofs.Least.{Least, least-unique, least-map, lesser-least, firstOf-least}
@@ -25,23 +25,23 @@ one : (b : Bool) (x : ℕ) → Least (λ c. (b ≡ true) × (x ≡ c)) (cond b (
 one true x = ((refl, refl), λ c less h. absurd (omega (arith, h .1)))
 one false x = λ c h. false≢true (h .0)
 
-module _ (t : Table) where
+module _ (t : GnuTable) where
   -- a misplaced symbol of bucket c, from i up to e
   abbrev pub Amiss : ℕ → ℕ → ℕ → Type 0
-  Amiss i e c = (j : ℕ) × (i ≤ j) × (j < e) × (misplaced t j ≡ true) × (bucketOf t j ≡ c)
+  Amiss i e c = (j : ℕ) × (i ≤ j) × (j < e) × (misplaced t j ≡ true) × (gnuBucketOf t j ≡ c)
 
   least-misplaced : (i k : ℕ) → Least (Amiss i (i + k)) (leastMisplaced t i k)
   unfolding leastMisplaced
   least-misplaced i zero = λ c h. absurd (omega arith)
   least-misplaced i (suc k) =
-      least-map (λ c. ((misplaced t i ≡ true) × (bucketOf t i ≡ c)) ⊎ Amiss (suc i) (suc i + k) c) (Amiss i (i + suc k))
+      least-map (λ c. ((misplaced t i ≡ true) × (gnuBucketOf t i ≡ c)) ⊎ Amiss (suc i) (suc i + k) c) (Amiss i (i + suc k))
       (λ c. ⊎-elim (λ h. (i, le-refl i, omega arith, h .0, h .1)) (λ h. (h .0, omega arith, omega arith, h .3, h .4)))
-      (λ c h. ⊎-elim (λ z. inl (subst (λ x. (misplaced t x ≡ true) × (bucketOf t x ≡ c)) (sym z) (h .3, h .4)))
+      (λ c h. ⊎-elim (λ z. inl (subst (λ x. (misplaced t x ≡ true) × (gnuBucketOf t x ≡ c)) (sym z) (h .3, h .4)))
       (λ more. inr (h .0, more, omega arith, h .3, h .4)) (eq-or-lt-of-le (h .1)))
       (leastMisplaced t i (suc k))
-      (lesser-least (λ c. (misplaced t i ≡ true) × (bucketOf t i ≡ c)) (Amiss (suc i) (suc i + k))
-      (cond (misplaced t i) (some (bucketOf t i)) none) (leastMisplaced t (suc i) k)
-      (one (misplaced t i) (bucketOf t i)) (least-misplaced (suc i) k))
+      (lesser-least (λ c. (misplaced t i ≡ true) × (gnuBucketOf t i ≡ c)) (Amiss (suc i) (suc i + k))
+      (cond (misplaced t i) (some (gnuBucketOf t i)) none) (leastMisplaced t (suc i) k)
+      (one (misplaced t i) (gnuBucketOf t i)) (least-misplaced (suc i) k))
 
   -- a bucket breaks G9 exactly if it is stray or has a misplaced symbol
   broken : (c : ℕ) → (plainStray t c ≡ true) ⊎ Amiss (t .base) (t .base + (t .count - t .base)) c → bucketRight t c ≡ false
@@ -93,7 +93,7 @@ module _ (t : Table) where
       (least-map (λ c. ((c < t .bucketCount) × (plainStray t c ≡ true)) ⊎ Amiss (t .base)
       (t .base + (t .count - t .base)) c) Breaks
       (λ c. ⊎-elim (λ h. (h .0, ap not (broken c (inl (h .1)))))
-      (λ h. (subst (λ x. x < t .bucketCount) (h .4) (mod-lt (hashOf t (h .0)) some-bucket), ap not (broken c (inr h)))))
+      (λ h. (subst (λ x. x < t .bucketCount) (h .4) (mod-lt (gnuHashAt t (h .0)) some-bucket), ap not (broken c (inr h)))))
       (λ c h. ⊎-elim (λ s. inl (h .0, s)) inr (why c (not-true (bucketRight t c) (h .1))))
       plainWrong
       (lesser-least (λ c. (c < t .bucketCount) × (plainStray t c ≡ true)) (Amiss (t .base) (t .base + (t .count - t .base)))

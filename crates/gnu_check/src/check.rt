@@ -15,13 +15,13 @@ use gnu_table::header::Layout;
 use gnu_table::header::header;
 use readable_names::lowest_unreadable;
 use symbol::table::SymbolCount;
+use symbol::table::SymbolIndex;
 use symbol::table::symbol_count;
 ghost use mathlib.Core.Bool.{true};
 ghost use mathlib.Core.Path.{_≡_};
 ghost use Prim.Native.Nat.{ℕ, _≤_, _<_};
-ghost use Rattle.gnu_table.specs.Header.{tableWith};
-ghost use Rattle.gnu_rules.specs.Rules.{valueIsHash, gnuCheck};
-ghost use Rattle.gnu_rules.specs.Rules.{check as checkOf};
+ghost use Rattle.gnu_table.specs.Layout.{tableWith};
+ghost use Rattle.gnu_rules.specs.Rules.{valueIsHash, gnuCheck, gnuTableCheck};
 ghost use Rattle.gnu_check.specs.Verdicts.{Sound, fromNames, fromBuckets};
 
 // G9, G10 and the longest chain.
@@ -46,8 +46,8 @@ fn check_buckets(
         return Checked::Broken(9, bucket);
     }
     let symbol = lowest_wrong_end(class, order, table, symbols, strings, layout, count);
-    if symbol != count {
-        return Checked::Broken(10, symbol);
+    if symbol.0 != count {
+        return Checked::Broken(10, symbol.0);
     }
     Checked::Accepted(longest_chain(order, table, layout, count))
 }
@@ -66,18 +66,18 @@ fn check_symbols(
     ensures { λ r. ⌜ r
         ≡ fromNames (tableWith class order (now (table .entry)) (now (symbols .entry)) (now (strings .entry)) layout count) ⌝ }
 {
-    let base = layout.symbol_base;
+    let base = SymbolIndex(layout.symbol_base);
     let unreadable = lowest_unreadable(class, order, symbols, strings, base, count);
-    if unreadable != count {
-        return Checked::Broken(6, unreadable);
+    if unreadable.0 != count {
+        return Checked::Broken(6, unreadable.0);
     }
     let wrong = lowest_wrong_value(class, order, table, symbols, strings, layout, count);
-    if wrong != count {
-        return Checked::Broken(7, wrong);
+    if wrong.0 != count {
+        return Checked::Broken(7, wrong.0);
     }
     let unset = lowest_unset(class, order, table, symbols, strings, layout, count);
-    if unset != count {
-        return Checked::Broken(8, unset);
+    if unset.0 != count {
+        return Checked::Broken(8, unset.0);
     }
     check_buckets(class, order, table, symbols, strings, layout, count)
 }
@@ -93,7 +93,7 @@ fn check_table(
     count: u32,
 ) -> Checked
     ensures { λ r. ⌜ r
-        ≡ checkOf (tableWith class order (now (table .entry)) (now (symbols .entry)) (now (strings .entry)) layout count) ⌝ }
+        ≡ gnuTableCheck (tableWith class order (now (table .entry)) (now (symbols .entry)) (now (strings .entry)) layout count) ⌝ }
 {
     let broken = broken_header(layout, count);
     if broken != 0 {

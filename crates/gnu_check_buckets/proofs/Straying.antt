@@ -5,8 +5,8 @@ use mathlib.Core.Path.{_≡_, refl}
 use mathlib.Core.Bool.{Bool, true, false, not}
 use lib.Dec.{eqb}
 use borrow.Author.Tests.{eq-eqb, ne-eqb, le-leb, lt-leb, lt-ltb, le-ltb}
-use Rattle.gnu_table.specs.Table.{Table, valueOf}
-use Rattle.gnu_rules.specs.Rules.{bucketOf}
+use Rattle.gnu_table.specs.Table.{GnuTable, valueOf}
+use Rattle.gnu_rules.specs.Rules.{gnuBucketOf}
 use Rattle.gnu_check_buckets.specs.Runs.{mayBe, stray}
 
 -- the double negation of a test
@@ -14,7 +14,7 @@ not-twice : (b : Bool) → not (not b) ≡ b
 not-twice true = refl
 not-twice false = refl
 
-module _ (t : Table) (b v : ℕ) (held : t .bucket b ≡ v) where
+module _ (t : GnuTable) (b v : ℕ) (held : t .bucket b ≡ v) where
   pub stray-zero : v ≡ 0 → stray t b ≡ false
   unfolding stray
   stray-zero empty = rw (held, eq-eqb v 0 empty)
@@ -35,7 +35,7 @@ module _ (t : Table) (b v : ℕ) (held : t .bucket b ≡ v) where
         stray-ruled-out out = rw (held, ne-eqb v 0 some, le-leb (t .base) v low, lt-ltb v (t .count) high, out)
 
         module _ (may : mayBe (valueOf t v) (t .bucketCount) b ≡ true) where
-          pub stray-other : ¬ (bucketOf t v ≡ b) → stray t b ≡ true
+          pub stray-other : ¬ (gnuBucketOf t v ≡ b) → stray t b ≡ true
           unfolding stray
           stray-other other =
               rw (
@@ -44,10 +44,10 @@ module _ (t : Table) (b v : ℕ) (held : t .bucket b ≡ v) where
                 le-leb (t .base) v low,
                 lt-ltb v (t .count) high,
                 may,
-                ne-eqb (bucketOf t v) b other,
+                ne-eqb (gnuBucketOf t v) b other,
               )
 
-          module _ (mine : bucketOf t v ≡ b) where
+          module _ (mine : gnuBucketOf t v ≡ b) where
             pub stray-first : v ≡ t .base → stray t b ≡ false
             unfolding stray
             stray-first first =
@@ -57,11 +57,11 @@ module _ (t : Table) (b v : ℕ) (held : t .bucket b ≡ v) where
                   le-leb (t .base) v low,
                   lt-ltb v (t .count) high,
                   may,
-                  eq-eqb (bucketOf t v) b mine,
+                  eq-eqb (gnuBucketOf t v) b mine,
                   eq-eqb v (t .base) first,
                 )
 
-            pub stray-before : ¬ (v ≡ t .base) → stray t b ≡ eqb (bucketOf t (v - 1)) b
+            pub stray-before : ¬ (v ≡ t .base) → stray t b ≡ eqb (gnuBucketOf t (v - 1)) b
             unfolding stray
             stray-before later =
                 rw (
@@ -70,7 +70,7 @@ module _ (t : Table) (b v : ℕ) (held : t .bucket b ≡ v) where
                   le-leb (t .base) v low,
                   lt-ltb v (t .count) high,
                   may,
-                  eq-eqb (bucketOf t v) b mine,
+                  eq-eqb (gnuBucketOf t v) b mine,
                   ne-eqb v (t .base) later,
                 )
-                (not-twice (eqb (bucketOf t (v - 1)) b))
+                (not-twice (eqb (gnuBucketOf t (v - 1)) b))

@@ -1,10 +1,11 @@
--- G9 by runs of neighbours in one bucket, as one pass over the symbols and one over the buckets see them. After G7 it is
--- G9 itself: `Wrong.least-wrong` of `gnu_check`.
+-- Need not be believed: G9 by runs of neighbours in one bucket, as one pass over the symbols and one over the buckets see
+-- them. After G7 it is G9 itself: `Wrong.least-wrong` of `gnu_check`.
 --     lesser           the lesser of two numbers, where there are any
 --     mayBe            by its value alone, a symbol may be of a bucket
 --     runStart         the start of the run of equal buckets that a hashed symbol is in, by how far it is past symbol_base
 --     misplaced        a symbol whose bucket does not hold the start of its run
---     stray            a bucket that holds neither 0 nor the start of a run of its own
+--     begins           a symbol is the start of a run of a bucket, and by its value may be of it
+--     stray            a bucket that holds neither 0 nor such a symbol
 --     leastMisplaced   the lowest bucket of a misplaced symbol
 --     leastWrong       the lowest bucket that is stray, or that a misplaced symbol is in
 --     wrongBucket      the same, or the number of buckets
@@ -14,8 +15,8 @@ use mathlib.Core.Bool.{Bool, cond, not, _&&_, _||_}
 use mathlib.Core.Option.{Option, some, none, Option·getD}
 use lib.Dec.{leb, ltb, eqb}
 use Rattle.lookup.specs.Pick.{from, firstOf}
-use Rattle.gnu_table.specs.Table.{Table, valueOf}
-use Rattle.gnu_rules.specs.Rules.{bucketOf, inBucket}
+use Rattle.gnu_table.specs.Table.{GnuTable, valueOf}
+use Rattle.gnu_rules.specs.Rules.{gnuBucketOf, inBucket}
 
 abbrev pub lesser : Option ℕ → Option ℕ → Option ℕ
 lesser none o = o
@@ -26,13 +27,13 @@ lesser (some a) (some b) = some (min a b)
 abbrev pub mayBe : (value buckets b : ℕ) → Bool
 mayBe value buckets b = eqb (value / 2 * 2 % buckets) b || eqb ((value / 2 * 2 + 1) % buckets) b
 
-module _ (t : Table) where
+module _ (t : GnuTable) where
   unfoldable pub runStart : ℕ → ℕ
   runStart zero = t .base
-  runStart (suc k) = cond (eqb (bucketOf t (t .base + k)) (bucketOf t (t .base + suc k))) (runStart k) (t .base + suc k)
+  runStart (suc k) = cond (eqb (gnuBucketOf t (t .base + k)) (gnuBucketOf t (t .base + suc k))) (runStart k) (t .base + suc k)
 
   abbrev pub misplaced : ℕ → Bool
-  misplaced i = not (eqb (t .bucket (bucketOf t i)) (runStart (i - t .base)))
+  misplaced i = not (eqb (t .bucket (gnuBucketOf t i)) (runStart (i - t .base)))
 
   -- symbol v is the first of a run of bucket b; its value is asked first, so that few names are hashed
   abbrev pub begins : ℕ → ℕ → Bool
@@ -46,7 +47,7 @@ module _ (t : Table) where
   -- of k symbols from i on
   unfoldable pub leastMisplaced : ℕ → ℕ → Option ℕ
   leastMisplaced i zero = none
-  leastMisplaced i (suc k) = lesser (cond (misplaced i) (some (bucketOf t i)) none) (leastMisplaced (suc i) k)
+  leastMisplaced i (suc k) = lesser (cond (misplaced i) (some (gnuBucketOf t i)) none) (leastMisplaced (suc i) k)
 
   abbrev pub leastWrong : Option ℕ
   leastWrong = lesser (firstOf stray (from 0 (t .bucketCount))) (leastMisplaced (t .base) (t .count - t .base))

@@ -1,17 +1,19 @@
 // G9: each bucket holds 0 if it has no symbol, else its lowest, and its symbols are consecutive. One
-// pass over the symbols sees their runs in one bucket, and one over the buckets what they hold.
+// pass over the symbols sees their runs in one bucket, and one over the buckets what they hold. In a
+// table that keeps G7 they find what breaks G9.
 use endian::kinds::Class;
 use endian::kinds::Order;
 use gnu_check_hashes::hashes::symbol_hash;
 use gnu_table::header::Layout;
 use gnu_table::words::word_of;
 use lookup::smaller;
+use symbol::table::SymbolIndex;
 ghost use mathlib.Core.Option.{Option·getD};
 ghost use mathlib.Core.Path.{_≡_};
 ghost use mathlib.Core.Bool.{cond};
 ghost use lib.Dec.{eqb};
 ghost use Prim.Native.Nat.{_-_, _%_, _<_, min};
-ghost use Rattle.gnu_table.specs.Header.{tableWith};
+ghost use Rattle.gnu_table.specs.Layout.{tableWith};
 ghost use Rattle.gnu_check_hashes.specs.Names.{hashIn};
 ghost use Rattle.lookup.specs.Search.{firstFrom};
 ghost use Rattle.gnu_check_buckets.specs.Runs.{mayBe, stray, leastMisplaced, wrongBucket};
@@ -23,12 +25,12 @@ fn bucket_of(
     symbols: &[u8],
     strings: &[u8],
     buckets: u32,
-    i: u32,
+    symbol: SymbolIndex,
 ) -> u32
     requires { ⌜ 0 < buckets ⌝ }
-    ensures { λ r. ⌜ (r ≡ hashIn class order (now (symbols .entry)) (now (strings .entry)) i % buckets) × (r < buckets) ⌝ }
+    ensures { λ r. ⌜ (r ≡ hashIn class order (now (symbols .entry)) (now (strings .entry)) (symbol .0) % buckets) × (r < buckets) ⌝ }
 {
-    symbol_hash(class, order, symbols, strings, i) % buckets
+    symbol_hash(class, order, symbols, strings, symbol) % buckets
 }
 
 // Where the run of symbol i of bucket b starts: with the run of the symbol before, if that is of the
@@ -73,7 +75,8 @@ fn least_misplaced(
     let mut last = layout.bucket_count;
     let mut i = layout.symbol_base;
     while i < count {
-        let b = bucket_of(class, order, symbols, strings, layout.bucket_count, i);
+        let symbol = SymbolIndex(i);
+        let b = bucket_of(class, order, symbols, strings, layout.bucket_count, symbol);
         start = run_start(last, b, start, i);
         best = lower_wrong(best, b, word_of(order, table, layout.buckets_at, b), start);
         last = b;
@@ -94,8 +97,8 @@ fn may_be(value: u32, buckets: u32, b: u32) -> bool
     (even + 1) % buckets == b
 }
 
-// Whether a bucket holds neither 0 nor the first symbol of a run of its own. A name is hashed only
-// where the value does not rule the bucket out.
+// Whether a bucket holds neither 0 nor the first symbol of a run of its own, with a value that may be
+// of this bucket. A name is hashed only where the value does not rule the bucket out.
 fn is_stray(
     class: Class,
     order: Order,
@@ -124,13 +127,15 @@ fn is_stray(
     if !may_be(value, layout.bucket_count, b) {
         return true;
     }
-    if bucket_of(class, order, symbols, strings, layout.bucket_count, v) != b {
+    let symbol = SymbolIndex(v);
+    if bucket_of(class, order, symbols, strings, layout.bucket_count, symbol) != b {
         return true;
     }
     if v == layout.symbol_base {
         return false;
     }
-    bucket_of(class, order, symbols, strings, layout.bucket_count, v - 1) == b
+    let before = SymbolIndex(v - 1);
+    bucket_of(class, order, symbols, strings, layout.bucket_count, before) == b
 }
 
 // The lowest such bucket, or the number of buckets.
@@ -159,7 +164,8 @@ fn lowest_stray(
     layout.bucket_count
 }
 
-// The lowest bucket that is wrong, or the number of buckets.
+// The lowest bucket that is stray, or that a misplaced symbol is in, or the number of buckets. In a
+// table that keeps G7 it is the lowest that breaks G9.
 pub fn lowest_wrong_bucket(
     class: Class,
     order: Order,

@@ -1,5 +1,5 @@
--- G10 and the longest chain by runs of neighbours in one bucket, as one pass over the symbols sees them. After G9 it is G10
--- itself, and the longest chain: `Judged.from-buckets-10` and `from-buckets-accepted` of `gnu_check`.
+-- Need not be believed: G10 and the longest chain by runs of neighbours in one bucket, as one pass over the symbols sees them.
+-- After G9 it is G10 itself, and the longest chain: `Judged.from-buckets-10` and `from-buckets-accepted` of `gnu_check`.
 --     lastIn           the next symbol is of another bucket, or there is none
 --     lastOfRun        the same in a table
 --     endsRun          low bit 1 exactly at the last symbol of a run
@@ -14,8 +14,8 @@ use lib.Dec.{ltb, eqb}
 use Rattle.endian.specs.declared.kinds.Class.{Class}
 use Rattle.endian.specs.declared.kinds.Order.{Order}
 use Rattle.lookup.specs.Pick.{from, largest}
-use Rattle.gnu_table.specs.Table.{Table, valueOf, odd}
-use Rattle.gnu_rules.specs.Rules.{bucketOf, inBucket}
+use Rattle.gnu_table.specs.Table.{GnuTable, valueOf, odd}
+use Rattle.gnu_rules.specs.Rules.{gnuBucketOf, inBucket}
 use Rattle.lookup.specs.Search.{firstFrom}
 use Rattle.gnu_check_hashes.specs.Names.{hashIn}
 
@@ -24,9 +24,9 @@ lastIn class order symbols strings buckets count i =
     not (ltb (suc i) count && eqb (hashIn class order symbols strings (suc i) % buckets)
     (hashIn class order symbols strings i % buckets))
 
-module _ (t : Table) where
+module _ (t : GnuTable) where
   abbrev pub lastOfRun : ℕ → Bool
-  lastOfRun i = not (ltb (suc i) (t .count) && inBucket t (bucketOf t i) (suc i))
+  lastOfRun i = not (ltb (suc i) (t .count) && inBucket t (gnuBucketOf t i) (suc i))
 
   abbrev pub endsRun : ℕ → Bool
   endsRun i = Bool·beq (odd (valueOf t i)) (lastOfRun i)

@@ -5,12 +5,14 @@ use endian::kinds::Order;
 use gnu_check_hashes::hashes::symbol_hash;
 use gnu_table::header::Layout;
 use gnu_table::words::word_of;
+use symbol::table::SymbolIndex;
 ghost use mathlib.Core.Bool.{cond};
 ghost use mathlib.Core.Path.{_≡_};
 ghost use Prim.Native.Nat.{_+_, _*_, _≤_, _<_, max};
 ghost use Rattle.endian.specs.Word.{wordAt};
+ghost use Rattle.symbol.specs.Table.{symbolIndex};
 ghost use Rattle.gnu_table.specs.Table.{odd};
-ghost use Rattle.gnu_table.specs.Header.{tableWith};
+ghost use Rattle.gnu_table.specs.Layout.{tableWith};
 ghost use Rattle.gnu_check_ends.specs.Ends.{lastIn, endsRun, wrongEnd, longestChain};
 
 // Whether the next symbol is of another bucket, or there is none.
@@ -21,16 +23,17 @@ fn is_last(
     strings: &[u8],
     buckets: u32,
     count: u32,
-    i: u32,
+    symbol: SymbolIndex,
 ) -> bool
-    requires { ⌜ (0 < buckets) × (i < count) ⌝ }
-    ensures { λ r. ⌜ r ≡ lastIn class order (now (symbols .entry)) (now (strings .entry)) buckets count i ⌝ }
+    requires { ⌜ (0 < buckets) × (symbol .0 < count) ⌝ }
+    ensures { λ r. ⌜ r ≡ lastIn class order (now (symbols .entry)) (now (strings .entry)) buckets count (symbol .0) ⌝ }
 {
-    if i + 1 == count {
+    let next = symbol.0 + 1;
+    if next == count {
         return true;
     }
-    let b = symbol_hash(class, order, symbols, strings, i) % buckets;
-    symbol_hash(class, order, symbols, strings, i + 1) % buckets != b
+    let b = symbol_hash(class, order, symbols, strings, symbol) % buckets;
+    symbol_hash(class, order, symbols, strings, SymbolIndex(next)) % buckets != b
 }
 
 fn ends_right(
@@ -41,13 +44,18 @@ fn ends_right(
     strings: &[u8],
     layout: Layout,
     count: u32,
-    i: u32,
+    symbol: SymbolIndex,
 ) -> bool
-    requires { ⌜ (0 < layout .«bucket_count») × (layout .«symbol_base» ≤ i) × (i < count) ⌝ }
+    requires { ⌜ (0 < layout .«bucket_count») × (layout .«symbol_base» ≤ symbol .0) × (symbol .0 < count) ⌝ }
     ensures { λ r. ⌜ r
-        ≡ endsRun (tableWith class order (now (table .entry)) (now (symbols .entry)) (now (strings .entry)) layout count) i ⌝ }
+        ≡ endsRun (tableWith class order (now (table .entry)) (now (symbols .entry)) (now (strings .entry)) layout count) (symbol .0) ⌝ }
 {
-    let value = word_of(order, table, layout.values_at, i - layout.symbol_base);
+    let value = word_of(
+        order,
+        table,
+        layout.values_at,
+        symbol.0 - layout.symbol_base,
+    );
     let ends = value % 2 == 1;
     ends
         == is_last(
@@ -57,11 +65,12 @@ fn ends_right(
             strings,
             layout.bucket_count,
             count,
-            i,
+            symbol,
         )
 }
 
-// The lowest hashed symbol whose low bit is wrong, or `count`.
+// The lowest hashed symbol whose low bit is not 1 exactly if it is the last of its run, or number
+// `count`; always that without buckets. In a table that keeps G9 it is the lowest that breaks G10.
 pub fn lowest_wrong_end(
     class: Class,
     order: Order,
@@ -70,21 +79,31 @@ pub fn lowest_wrong_end(
     strings: &[u8],
     layout: Layout,
     count: u32,
-) -> u32
+) -> SymbolIndex
     ensures { λ r. ⌜ r
-        ≡ wrongEnd (tableWith class order (now (table .entry)) (now (symbols .entry)) (now (strings .entry)) layout count) ⌝ }
+        ≡ symbolIndex
+        (wrongEnd (tableWith class order (now (table .entry)) (now (symbols .entry)) (now (strings .entry)) layout count)) ⌝ }
 {
     if layout.bucket_count == 0 {
-        return count;
+        return SymbolIndex(count);
     }
     let mut i = layout.symbol_base;
     while i < count {
-        if !ends_right(class, order, table, symbols, strings, layout, count, i) {
-            return i;
+        if !ends_right(
+            class,
+            order,
+            table,
+            symbols,
+            strings,
+            layout,
+            count,
+            SymbolIndex(i),
+        ) {
+            return SymbolIndex(i);
         }
         i += 1;
     }
-    count
+    SymbolIndex(count)
 }
 
 fn larger(a: u32, b: u32) -> u32

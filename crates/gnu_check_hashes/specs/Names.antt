@@ -1,4 +1,5 @@
--- The GNU hash of a symbol's name (01, "GNU checker").
+-- Need not be believed: the GNU hash of a symbol's name, as the checker's passes ask for it. That it is `gnuHashAt` is proved
+-- where they are.
 --     hashAt    the hash of the string at an offset; of one that cannot be read, that of the empty name
 --     hashIn    the hash of a symbol's name
 -- Assumes nothing.

@@ -30,10 +30,16 @@ fn hash_at(strings: &[u8], offset: u32) -> u32
 }
 
 // The hash of a symbol's name; of one that cannot be read, that of the empty name.
-pub fn symbol_hash(class: Class, order: Order, symbols: &[u8], strings: &[u8], i: u32) -> u32
-    ensures { λ r. ⌜ r ≡ hashIn class order (now (symbols .entry)) (now (strings .entry)) i ⌝ }
+pub fn symbol_hash(
+    class: Class,
+    order: Order,
+    symbols: &[u8],
+    strings: &[u8],
+    symbol: SymbolIndex,
+) -> u32
+    ensures { λ r. ⌜ r ≡ hashIn class order (now (symbols .entry)) (now (strings .entry)) (symbol .0) ⌝ }
 {
-    match symbol_at(class, order, symbols, SymbolIndex(i)) {
+    match symbol_at(class, order, symbols, symbol) {
         SymbolAt::At(entry) => hash_at(strings, entry.name),
         SymbolAt::Refused(_) => 5381,
     }

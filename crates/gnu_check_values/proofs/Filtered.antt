@@ -6,8 +6,8 @@ use mathlib.Core.Bool.{Bool, true, false, cond, not, _&&_}
 use native.Mathlib.Omega.{arith}
 use borrow.Author.Tests.{ne-eqb, le-ltb}
 use Rattle.gnu_table.specs.declared.filter.Bloom.the-variants.{Passes, Stops}
-use Rattle.gnu_table.specs.Table.{Table, bloomFirst, bloomSecond, bloomFilter}
-use Rattle.gnu_rules.specs.Rules.{hashOf, bloomBitsSet}
+use Rattle.gnu_table.specs.Table.{GnuTable, bloomFirst, bloomSecond, bloomFilter}
+use Rattle.gnu_rules.specs.Rules.{gnuHashAt, bloomBitsSet}
 use Rattle.gnu_check_values.specs.Blooms.{passes, hashPasses}
 
 both : (first second : Bool)
@@ -16,8 +16,8 @@ both true true = refl
 both true false = refl
 both false second = refl
 
-pub bits-set : (t : Table) → 1 ≤ t .bloomCount → t .shift ≤ 31 → (i : ℕ) → hashPasses t i ≡ bloomBitsSet t i
+pub bits-set : (t : GnuTable) → 1 ≤ t .bloomCount → t .shift ≤ 31 → (i : ℕ) → hashPasses t i ≡ bloomBitsSet t i
 unfolding hashPasses bloomFilter
 bits-set t blooms small i =
     rw (ne-eqb (t .bloomCount) 0 (omega arith), le-ltb 31 (t .shift) small)
-    (both (bloomFirst t (hashOf t i)) (bloomSecond t (hashOf t i)))
+    (both (bloomFirst t (gnuHashAt t i)) (bloomSecond t (gnuHashAt t i)))

@@ -5,9 +5,11 @@ use gnu_check_hashes::hashes::symbol_hash;
 use gnu_table::filter::Bloom;
 use gnu_table::filter::bloom_filter;
 use gnu_table::header::Layout;
+use symbol::table::SymbolIndex;
 ghost use mathlib.Core.Bool.{not};
 ghost use mathlib.Core.Path.{_≡_};
-ghost use Rattle.gnu_table.specs.Header.{tableWith};
+ghost use Rattle.symbol.specs.Table.{symbolIndex};
+ghost use Rattle.gnu_table.specs.Layout.{tableWith};
 ghost use Rattle.lookup.specs.Search.{firstFrom};
 ghost use Rattle.gnu_check_values.specs.Blooms.{hashPasses};
 
@@ -18,12 +20,12 @@ fn has_bits(
     symbols: &[u8],
     strings: &[u8],
     layout: Layout,
-    i: u32,
+    symbol: SymbolIndex,
 ) -> bool
     ensures { λ r. ⌜ r
-        ≡ hashPasses (tableWith class order (now (table .entry)) (now (symbols .entry)) (now (strings .entry)) layout 0) i ⌝ }
+        ≡ hashPasses (tableWith class order (now (table .entry)) (now (symbols .entry)) (now (strings .entry)) layout 0) (symbol .0) ⌝ }
 {
-    let hash = symbol_hash(class, order, symbols, strings, i);
+    let hash = symbol_hash(class, order, symbols, strings, symbol);
     match bloom_filter(class, order, table, layout, hash) {
         Bloom::Passes => true,
         Bloom::Stops => false,
@@ -31,7 +33,8 @@ fn has_bits(
     }
 }
 
-// The lowest hashed symbol whose hash the bloom filter does not let pass, or `count`.
+// The lowest hashed symbol whose hash the bloom filter does not let pass, or number
+// `count`.
 pub fn lowest_unset(
     class: Class,
     order: Order,
@@ -40,19 +43,28 @@ pub fn lowest_unset(
     strings: &[u8],
     layout: Layout,
     count: u32,
-) -> u32
+) -> SymbolIndex
     ensures { λ r. ⌜ r
-        ≡ firstFrom
+        ≡ symbolIndex
+        (firstFrom
         (λ i. not
         (hashPasses (tableWith class order (now (table .entry)) (now (symbols .entry)) (now (strings .entry)) layout count) i))
-        (layout .«symbol_base») count ⌝ }
+        (layout .«symbol_base») count) ⌝ }
 {
     let mut i = layout.symbol_base;
     while i < count {
-        if !has_bits(class, order, table, symbols, strings, layout, i) {
-            return i;
+        if !has_bits(
+            class,
+            order,
+            table,
+            symbols,
+            strings,
+            layout,
+            SymbolIndex(i),
+        ) {
+            return SymbolIndex(i);
         }
         i += 1;
     }
-    count
+    SymbolIndex(count)
 }

@@ -16,16 +16,16 @@ use borrow.Author.Tests.{eq-eqb, ne-eqb, lt-ltb, le-ltb}
 use Rattle.endian.specs.declared.kinds.Class.{Class}
 use Rattle.endian.specs.declared.kinds.Order.{Order}
 use Rattle.endian.specs.declared.refusals.Refusal.{Refusal}
-use Rattle.endian.specs.Refusals.{limit, tooLong}
+use Rattle.endian.specs.Refusals.{limit, tooLong, unlessRefused}
 use Rattle.lookup.specs.Pick.{from, firstOf, largest}
 use Rattle.lookup.proofs.Picking.{from-cons}
 use Rattle.gnu_table.specs.declared.header.HeaderAt.{HeaderAt}
 use Rattle.gnu_table.specs.declared.header.Layout.{Layout}
-use Rattle.gnu_table.specs.Table.{Table, odd, valueOf}
-use Rattle.gnu_table.specs.Layout.{fault}
-use Rattle.gnu_table.specs.Header.{layoutOf, headerAnswer, gnuHeader, tableAt}
+use Rattle.gnu_table.specs.Table.{GnuTable, odd, valueOf}
+use Rattle.gnu_table.specs.Header.{gnuFault, layoutOf, gnuHeader}
+use Rattle.gnu_table.specs.Places.{tableAt}
 use Rattle.gnu_length.specs.declared.TableLength.{TableLength}
-use Rattle.gnu_length.specs.Length.{highest, numberAfter, lengthOf, lengthAnswer, gnuLength}
+use Rattle.gnu_length.specs.Length.{highestBucket, numberAfter, lengthOf, lengthAnswer, gnuLength}
 
 module _ (f : ℕ → ℕ) where
   pub highest-start : (e : ℕ) → max 0 (largest (map f (from 0 (e - 0)))) ≡ largest (map f (from 0 e))
@@ -48,7 +48,7 @@ module _ (p : ℕ → Bool) (i e : ℕ) where
   pub chain-end : e ≤ i → firstOf p (from i (e - i)) ≡ none
   chain-end done = let z : e - i ≡ 0 = omega arith in rw z
 
-module _ (t : Table) where
+module _ (t : GnuTable) where
   pub length-base : t .base ≡ 0 → lengthOf t ≡ none
   unfolding lengthOf
   length-base e = rw (eq-eqb (t .base) 0 e)
@@ -59,22 +59,22 @@ module _ (t : Table) where
     length-buckets e = rw (ne-eqb (t .base) 0 based, eq-eqb (t .bucketCount) 0 e)
 
     module _ (buckets : t .bucketCount ≡ 0 → ⊥) where
-      pub length-below : highest t < t .base → lengthOf t ≡ none
+      pub length-below : highestBucket t < t .base → lengthOf t ≡ none
       unfolding lengthOf
-      length-below less = rw (ne-eqb (t .base) 0 based, ne-eqb (t .bucketCount) 0 buckets, lt-ltb (highest t) (t .base) less)
+      length-below less = rw (ne-eqb (t .base) 0 based, ne-eqb (t .bucketCount) 0 buckets, lt-ltb (highestBucket t) (t .base) less)
 
-      pub length-is : t .base ≤ highest t
-          → lengthOf t ≡ numberAfter (firstOf (λ i. odd (valueOf t i)) (from (highest t) (t .valueCount - (highest t - t .base))))
+      pub length-is : t .base ≤ highestBucket t
+          → lengthOf t ≡ numberAfter (firstOf (λ i. odd (valueOf t i)) (from (highestBucket t) (t .valueCount - (highestBucket t - t .base))))
       unfolding lengthOf
-      length-is more = rw (ne-eqb (t .base) 0 based, ne-eqb (t .bucketCount) 0 buckets, le-ltb (highest t) (t .base) more)
+      length-is more = rw (ne-eqb (t .base) 0 based, ne-eqb (t .bucketCount) 0 buckets, le-ltb (highestBucket t) (t .base) more)
 
 abbrev pub lengthBy : HeaderAt → (Layout → Option ℕ) → TableLength
 lengthBy (HeaderAt.Refused r) measure = TableLength.Refused r
-lengthBy (HeaderAt.At layout) measure = lengthAnswer none (measure layout)
+lengthBy (HeaderAt.At layout) measure = lengthAnswer (measure layout)
 
 by-header : (long : Bool) (o : Option Refusal) (layout : Layout) (measure : Layout → Option ℕ)
-    → cond long (TableLength.Refused tooLong) (lengthAnswer o (measure layout))
-    ≡ lengthBy (cond long (HeaderAt.Refused tooLong) (headerAnswer o layout)) measure
+    → cond long (TableLength.Refused tooLong) (unlessRefused TableLength.Refused o (lengthAnswer (measure layout)))
+    ≡ lengthBy (cond long (HeaderAt.Refused tooLong) (unlessRefused HeaderAt.Refused o (HeaderAt.At layout))) measure
 by-header true o layout measure = refl
 by-header false none layout measure = refl
 by-header false (some r) layout measure = refl
@@ -84,5 +84,5 @@ pub length-by : (class : Class) (order : Order) (table : List ℕ)
     ≡ lengthBy (gnuHeader class order table) (λ layout. lengthOf (tableAt class order table layout 0))
 unfolding gnuLength gnuHeader lengthOf
 length-by class order table =
-    by-header (ltb limit (length table)) (fault class order table) (layoutOf class order table)
+    by-header (ltb limit (length table)) (gnuFault class order table) (layoutOf class order table)
     (λ layout. lengthOf (tableAt class order table layout 0))

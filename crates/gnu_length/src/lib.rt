@@ -8,10 +8,11 @@ use gnu_table::header::header;
 use gnu_table::words::word_of;
 use word::u32_at;
 ghost use mathlib.Core.Path.{_≡_};
-ghost use mathlib.Core.Option.{some, none};
+ghost use mathlib.Core.Option.{some};
 ghost use Prim.Native.Nat.{_^_, _≤_, _<_, max};
-ghost use Rattle.gnu_table.specs.Header.{tableAt};
-ghost use Rattle.gnu_length.specs.Length.{highestOf, numberAfter, lengthFrom, lengthOf, lengthAnswer, gnuLength};
+ghost use Rattle.gnu_table.specs.Places.{tableAt};
+ghost use Rattle.gnu_length.specs.Length.{numberAfter, lengthOf, lengthAnswer, gnuLength};
+ghost use Rattle.gnu_length.specs.Passes.{highestOf, lengthFrom};
 
 pub enum TableLength {
     Symbols(u32),
@@ -41,7 +42,7 @@ fn highest_bucket(order: Order, table: &[u8], buckets_at: u32, bucket_count: u32
 // The number after a symbol's, where that has no more than 32 bits.
 fn number_after(symbol: u64) -> TableLength
     requires { ⌜ symbol < 2 ^ 40 ⌝ }
-    ensures { λ r. ⌜ r ≡ lengthAnswer none (numberAfter (some symbol)) ⌝ }
+    ensures { λ r. ⌜ r ≡ lengthAnswer (numberAfter (some symbol)) ⌝ }
 {
     if symbol < 0xffff_ffff {
         TableLength::Symbols((symbol + 1) as u32)
@@ -74,7 +75,7 @@ fn length_from(
 }
 
 fn length_at(class: Class, order: Order, table: &[u8], layout: Layout) -> TableLength
-    ensures { λ r. ⌜ r ≡ lengthAnswer none (lengthOf (tableAt class order (now (table .entry)) layout 0)) ⌝ }
+    ensures { λ r. ⌜ r ≡ lengthAnswer (lengthOf (tableAt class order (now (table .entry)) layout 0)) ⌝ }
 {
     let base = layout.symbol_base;
     if base == 0 {

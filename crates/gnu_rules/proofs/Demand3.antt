@@ -1,86 +1,40 @@
--- Demand 3, of the bytes: what a table that the checker accepts promises of every lookup in it.
---     Matches        a symbol's name is equal and its version matches
---     LowestMatch    it is the lowest such symbol, from symbol_base on and below n
---     Demand3        the demand's sentence, of an answer and the longest chain
---     demand-3       in an accepted table, the answer of every lookup keeps it
---     demand-3-last  the demand's last sentence: two lookups that ask for different names or versions never get one symbol
+-- Demand 3 (specs/Demand3) holds.
+--     demand-3, demand-3-last    the two theorems
 -- Assumes nothing.
-use Prim.Native.Nat.{ℕ, _+_, _-_, _/_, _≤_, _<_}
+use Prim.Native.Nat.{ℕ, _+_, _-_, _≤_, _<_}
 use mathlib.Core.Path.{_≡_, refl, sym, ap, _∙_, subst}
-use mathlib.Core.Bool.{Bool, true, false, true≢false}
+use mathlib.Core.Bool.{Bool, true, false, _&&_, true≢false}
 use mathlib.Core.List.{List, [], _∷_, _++_}
-use mathlib.Core.Logic.{_↔_}
 use mathlib.Core.Option.{Option, some, none}
 use native.Mathlib.Omega.{arith}
-use lib.Dec.{ltb}
+use lib.Dec.{ltb, eqb}
 use lib.ListN.{length}
 use Rattle.endian.specs.declared.kinds.Class.{Class}
 use Rattle.endian.specs.declared.kinds.Order.{Order}
 use Rattle.endian.specs.declared.refusals.Refusal.{Refusal}
 use Rattle.endian.specs.Refusals.{limit, anyLong, unlessRefused}
-use Rattle.endian.specs.Word.{wordAt}
 use Rattle.strings.proofs.Meaning.{same-refl}
 use Rattle.name_hash.specs.Hash.{gnuHash}
 use Rattle.symbol.specs.declared.table.SymbolIndex.{SymbolIndex}
-use Rattle.symbol.specs.Table.{symbolSize, symbolIndex}
-use Rattle.version_match.specs.declared.Need.{Need}
-use Rattle.version_match.specs.Match.{matching}
-use Rattle.lookup.specs.declared.Answer.{Answer}
+use Rattle.symbol.specs.Table.{symbolsIn, symbolIndex}
 use Rattle.lookup.specs.declared.Answer.the-variants.{Found, Missing, Refused}
-use Rattle.lookup.specs.Pick.{from, firstOf}
-use Rattle.lookup.specs.Wanted.{Parts, Asked, nameOf, wanted, wantedIn, answerOf}
+use Rattle.lookup.specs.Matches.{Matches}
+use Rattle.lookup.specs.Pick.{from, firstOf, upTo}
+use Rattle.lookup.specs.Wanted.{Parts, Asked, wanted, wantedIn, answerAfter}
 use Rattle.lookup.proofs.Distinct.{wanted-named, wanted-fits}
 use Rattle.lookup.proofs.Picking.{from-all, none-firstOf, firstOf-lowest, Lowest, by-test}
-use Rattle.gnu_table.specs.Table.{hashed}
-use Rattle.gnu_table.specs.Layout.{fault}
+use Rattle.gnu_table.specs.declared.filter.Bloom.{Bloom}
+use Rattle.gnu_table.specs.declared.filter.Bloom.the-variants.{Passes, Stops, Refuses}
+use Rattle.gnu_table.specs.Table.{GnuTable, hashed, valueOf, sameButLow, bloomFilter}
+use Rattle.gnu_table.specs.Header.{gnuFault}
+use Rattle.gnu.specs.Lookup.{gnuChain, startOf, walkAt, filtered, gnuLookup}
 use Rattle.gnu.specs.Find.{gnuTable, gnuFind}
 use Rattle.gnu.proofs.Theorems.{find-one}
 use Rattle.gnu_rules.specs.declared.Checked.the-variants.{Accepted, Refused as Checked·Refused}
-use Rattle.gnu_rules.specs.Rules.{check, gnuCheck}
+use Rattle.gnu_rules.specs.Rules.{gnuTableCheck, gnuCheck}
+use Rattle.gnu_rules.specs.Demand3.{probesOf, symbolBase, readBy, LowestMatch, walked, Demand3, Demand3Holds, Demand3Last}
 use Rattle.gnu_rules.proofs.Kept.{rules, accepted-longest}
 use Rattle.gnu_rules.proofs.Finds.{finds-lowest}
-
--- ---- the statement
-
-abbrev pub probesOf : Answer → ℕ
-probesOf (Found symbol probes) = probes
-probesOf (Missing probes) = probes
-probesOf (Refused r) = 0
-
-module _ (class : Class) (order : Order) (p : Parts) where
-  -- the header's second word
-  abbrev pub symbolBase : ℕ
-  symbolBase = wordAt order 4 (p .table) 4
-
-  -- the whole records
-  abbrev pub n : ℕ
-  n = length (p .symbols) / symbolSize class
-
-module _ (class : Class) (order : Order) (p : Parts) (asked : Asked) where
-  pub record Matches (k : ℕ) : Type 0 where
-    pub name : nameOf class order (p .symbols) (p .strings) k ≡ some (asked .name)
-    pub version : matching order (p .versyms) (p .store) (p .versionStrings) (symbolIndex k) (asked .need)
-        (asked .needName) ≡ true
-
-  pub record LowestMatch (k : ℕ) : Type 0 where
-    pub from-base : symbolBase class order p ≤ k
-    pub below-n : k < n class order p
-    pub matches : Matches k
-    pub none-lower : (j : ℕ) → symbolBase class order p ≤ j → j < k → ¬ Matches j
-
-  pub record Demand3 (most : ℕ) (answer : Answer) : Type 0 where
-    -- the lookup is not refused
-    pub not-refused : (r : Refusal) → ¬ (answer ≡ Refused r)
-    -- it finds symbol k exactly if k is the lowest number, from symbol_base on and below n, whose name is equal and whose
-    -- version matches
-    pub found : (k : ℕ) → (answer ≡ Found (symbolIndex k) (probesOf answer)) ↔ LowestMatch k
-    -- it finds nothing exactly if there is none
-    pub missing : (answer ≡ Missing (probesOf answer)) ↔
-        ((k : ℕ) → symbolBase class order p ≤ k → k < n class order p → ¬ Matches k)
-    -- its probes are at most the longest chain
-    pub few : probesOf answer ≤ most
-
--- ---- the proof
 
 -- answers of two kinds are never the same
 found-refused : (symbol : SymbolIndex) (probes : ℕ) (r : Refusal) → ¬ (Found symbol probes ≡ Refused r)
@@ -98,12 +52,16 @@ refused-accepted r most h = let z : _≡_ {A = ℕ} 0 1 = cc in omega arith
 found-symbol : (i k probes probes′ : ℕ) → Found (symbolIndex i) probes ≡ Found (symbolIndex k) probes′ → i ≡ k
 found-symbol i k probes probes′ h = let z : symbolIndex i ≡ symbolIndex k = cc in ap (λ (x : SymbolIndex). x .0) z
 
+probes-after : (o : Option ℕ) (probes : ℕ) → probesOf (answerAfter o probes) ≡ probes
+probes-after none probes = refl
+probes-after (some i) probes = refl
+
 module _ (class : Class) (order : Order) (p : Parts) (asked : Asked) where
   abbrev base : ℕ
-  base = symbolBase class order p
+  base = symbolBase order p
 
   abbrev count : ℕ
-  count = n class order p
+  count = symbolsIn class (p .symbols)
 
   abbrev want : ℕ → Bool
   want = wanted class order p asked
@@ -133,7 +91,31 @@ module _ (class : Class) (order : Order) (p : Parts) (asked : Asked) where
       let not-more : ¬ (k < j) = λ less. l .none-lower k (m .from-base) less (m .matches) in
       omega arith
 
-  module _ (most probes : ℕ) (few : probes ≤ most) where
+  abbrev t : GnuTable
+  t = gnuTable class order p
+
+  abbrev h : ℕ
+  h = gnuHash (asked .name)
+
+  lookup-counted : probesOf (gnuLookup t h want) ≡ length (walked class order p asked)
+  unfolding gnuLookup
+  lookup-counted = by (bloomFilter t h)
+    where
+      tested : ℕ → Bool
+      tested i = sameButLow (valueOf t i) h && want i
+
+      pairs : List ℕ
+      pairs = gnuChain t (startOf t h)
+
+      by : (f : Bloom) → probesOf (filtered f (walkAt t h want (startOf t h)))
+          ≡ length (readBy f (startOf t h) (upTo tested pairs))
+      by Stops = refl
+      by Refuses = refl
+      by Passes =
+          by-test (eqb (startOf t h) 0) (λ e. rw e)
+          (λ e. rw e (probes-after (firstOf tested pairs) (length (upTo tested pairs))))
+
+  module _ (most probes : ℕ) (few : probes ≤ most) (counted : probes ≡ length (walked class order p asked)) where
     found-lowest : (i : ℕ) → LowestMatch class order p asked i
         → Demand3 class order p asked most (Found (symbolIndex i) probes)
     found-lowest i here =
@@ -147,6 +129,7 @@ module _ (class : Class) (order : Order) (p : Parts) (asked : Asked) where
             (λ h. absurd (found-missing _ _ _ h)),
             λ h. absurd (h i (here .from-base) (here .below-n) (here .matches)),
           );
+          counted = counted;
           few = few;
         }
 
@@ -160,12 +143,13 @@ module _ (class : Class) (order : Order) (p : Parts) (asked : Asked) where
             λ l. absurd (nothing k (l .from-base) (l .below-n) (l .matches)),
           );
           missing = ((λ h. nothing), λ h. refl);
+          counted = counted;
           few = few;
         }
 
     -- an answer by the first wanted symbol
     by-first : base ≤ count → (o : Option ℕ) → firstOf want (from base (count - base)) ≡ o
-        → Demand3 class order p asked most (answerOf o probes)
+        → Demand3 class order p asked most (answerAfter o probes)
     by-first within none e =
         found-none
         (λ k lo hi. not-wanted k
@@ -177,8 +161,8 @@ module _ (class : Class) (order : Order) (p : Parts) (asked : Asked) where
 
 -- an accepted check is an accepted table, with no fault of the header, and parts that are short enough
 record Accept (class : Class) (order : Order) (p : Parts) (most : ℕ) : Type 0 where
-  table : check (gnuTable class order p) ≡ Accepted most
-  header : fault class order (p .table) ≡ none
+  table : gnuTableCheck (gnuTable class order p) ≡ Accepted most
+  header : gnuFault class order (p .table) ≡ none
   short : anyLong (p .table ∷ p .symbols ∷ p .strings ∷ []) ≡ false
 
 accept : (class : Class) (order : Order) (p : Parts) (most : ℕ)
@@ -187,10 +171,10 @@ unfolding gnuCheck
 accept class order p most h =
     by-test (anyLong (p .table ∷ p .symbols ∷ p .strings ∷ []))
     (λ long. absurd (refused-accepted _ most (rw long at h)))
-    (λ short. go (fault class order (p .table)) refl short (rw short at h))
+    (λ short. go (gnuFault class order (p .table)) refl short (rw short at h))
   where
-    go : (o : Option Refusal) → fault class order (p .table) ≡ o → anyLong (p .table ∷ p .symbols ∷ p .strings ∷ []) ≡ false
-        → unlessRefused Checked·Refused o (check (gnuTable class order p)) ≡ Accepted most → Accept class order p most
+    go : (o : Option Refusal) → gnuFault class order (p .table) ≡ o → anyLong (p .table ∷ p .symbols ∷ p .strings ∷ []) ≡ false
+        → unlessRefused Checked·Refused o (gnuTableCheck (gnuTable class order p)) ≡ Accepted most → Accept class order p most
     go none none-there short h = record { table = h; header = none-there; short = short }
     go (some r) there short h = absurd (refused-accepted r most h)
 
@@ -199,12 +183,7 @@ all-short [] ys h k = k
 all-short (x ∷ xs) ys h k =
     by-test (ltb limit (length x)) (λ e. absurd (true≢false (rw e at h))) (λ e. rw e (all-short xs ys (rw e at h) k))
 
--- if the checker accepts these symbols, strings, class and order, then for any name with its own GNU hash, any version
--- table and any need, all within the size limit
-pub demand-3 : (class : Class) (order : Order) (p : Parts) (most : ℕ)
-    → gnuCheck class order (p .table) (p .symbols) (p .strings) ≡ Accepted most
-    → (asked : Asked) → anyLong (p .versyms ∷ p .versionStrings ∷ asked .name ∷ asked .needName ∷ []) ≡ false
-    → Demand3 class order p asked most (gnuFind class order p asked (gnuHash (asked .name)))
+pub demand-3 : Demand3Holds
 unfolding gnuFind
 demand-3 class order p most accepted asked short =
     let a = accept class order p most accepted in
@@ -214,16 +193,11 @@ demand-3 class order p most accepted asked short =
     rw (all-short (p .table ∷ p .symbols ∷ p .strings ∷ []) _ (a .short) short, a .header, f .answer)
     (by-first class order p asked most (f .probes)
     (subst (λ m. f .probes ≤ m) (accepted-longest t most (a .table)) (f .few))
+    (sym (probes-after (firstOf (wanted class order p asked) (hashed t)) (f .probes)) ∙ ap probesOf (sym (f .answer))
+    ∙ lookup-counted class order p asked)
     (kept .base-high) (firstOf (wanted class order p asked) (hashed t)) refl)
 
--- two lookups that each state a version and get the same symbol asked for one name and one version; in any table, accepted
--- or not, and by any hashes
-pub demand-3-last : (class : Class) (order : Order) (p : Parts) (asked asked′ : Asked)
-    (hash hash′ needed needed′ k probes probes′ : ℕ)
-    → asked .need ≡ Need.Hash needed → asked′ .need ≡ Need.Hash needed′
-    → gnuFind class order p asked hash ≡ Found (symbolIndex k) probes
-    → gnuFind class order p asked′ hash′ ≡ Found (symbolIndex k) probes′
-    → (asked .name ≡ asked′ .name) × (asked .needName ≡ asked′ .needName) × (needed ≡ needed′)
+pub demand-3-last : Demand3Last
 demand-3-last class order p asked asked′ hash hash′ needed needed′ k probes probes′ need need′ found found′ =
     let one = find-one class order p asked asked′ hash hash′ needed needed′ k probes probes′ need need′ found found′ in
     (one .name, one .versionName, one .versionHash)

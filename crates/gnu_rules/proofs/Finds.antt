@@ -15,24 +15,24 @@ use Rattle.name_hash.specs.Hash.{gnuHash}
 use Rattle.lookup.specs.declared.Answer.{Answer}
 use Rattle.lookup.specs.declared.Answer.the-variants.{Missing}
 use Rattle.lookup.specs.Pick.{from, firstOf, upTo}
-use Rattle.lookup.specs.Wanted.{answerOf, walk}
+use Rattle.lookup.specs.Wanted.{answerAfter, walk}
 use Rattle.lookup.proofs.Picking.{all-map, all-from, all-select, firstOf-none, firstOf-select, firstOf-cong, length-upTo, upTo-from, largest-le, by-test, and-left, and-right, beq-eq, test-ext}
-use Rattle.gnu_table.specs.Table.{Table, hashed, valueOf, odd, sameButLow, bloomFirst, bloomSecond, bloomFilter}
-use Rattle.gnu.specs.Lookup.{chain, starts, startOf, walkAt, lookup}
-use Rattle.gnu_rules.specs.Rules.{hashOf, inBucket, members, holds, longest}
+use Rattle.gnu_table.specs.Table.{GnuTable, hashed, valueOf, odd, sameButLow, bloomFirst, bloomSecond, bloomFilter}
+use Rattle.gnu.specs.Lookup.{gnuChain, starts, startOf, walkAt, gnuLookup}
+use Rattle.gnu_rules.specs.Rules.{gnuHashAt, inBucket, members, holds, longest}
 use Rattle.gnu_rules.proofs.Kept.{Rules}
 use Rattle.gnu_rules.proofs.Members.{holds-run, inside, last, not-last}
 
 -- the lookup answers the first wanted symbol of the hashed ones, after few probes
-pub record FindsLowest (t : Table) (wanted : ℕ → Bool) (a : Answer) : Type 0 where
+pub record FindsLowest (t : GnuTable) (wanted : ℕ → Bool) (a : Answer) : Type 0 where
   pub probes : ℕ
-  pub answer : a ≡ answerOf (firstOf wanted (hashed t)) probes
+  pub answer : a ≡ answerAfter (firstOf wanted (hashed t)) probes
   pub few : probes ≤ longest t
 
-module _ (t : Table) (r : Rules t) where
+module _ (t : GnuTable) (r : Rules t) where
   -- the chain of a bucket that has symbols
   module _ (b v k : ℕ) (run : members t b ≡ from v (suc k)) where
-    chain-is : chain t v ≡ from v (suc k)
+    chain-is : gnuChain t v ≡ from v (suc k)
     chain-is =
         let end = inside t b v k run (v + k) (omega arith) (omega arith) in
         let start = inside t b v k run v (omega arith) (omega arith) in
@@ -58,15 +58,15 @@ module _ (t : Table) (r : Rules t) where
         )
 
   module _ (name : List ℕ) (wanted : ℕ → Bool) (named : (i : ℕ) → wanted i ≡ true → t .name i ≡ some name) where
-    hash-is : (i : ℕ) → wanted i ≡ true → hashOf t i ≡ gnuHash name
-    unfolding hashOf
+    hash-is : (i : ℕ) → wanted i ≡ true → gnuHashAt t i ≡ gnuHash name
+    unfolding gnuHashAt
     hash-is i h = rw (named i h)
 
     in-bucket : (i : ℕ) → wanted i ≡ true → inBucket t (gnuHash name % t .bucketCount) i ≡ true
     in-bucket i h = eq-eqb _ _ (ap (λ x. x % t .bucketCount) (hash-is i h))
 
     -- a test that every hashed symbol passes, and the name does not: nothing is wanted
-    none-wanted : (test : ℕ → Bool) → ((i : ℕ) → t .base ≤ i → i < t .count → test (hashOf t i) ≡ true)
+    none-wanted : (test : ℕ → Bool) → ((i : ℕ) → t .base ≤ i → i < t .count → test (gnuHashAt t i) ≡ true)
         → test (gnuHash name) ≡ false
         → firstOf wanted (hashed t) ≡ none
     none-wanted test all-pass fails =
@@ -100,7 +100,7 @@ module _ (t : Table) (r : Rules t) where
         record {
           probes = length (upTo tested (members t b));
           answer =
-              ap (λ o. answerOf o (length (upTo tested (members t b))))
+              ap (λ o. answerAfter o (length (upTo tested (members t b))))
               (firstOf-cong tested wanted (members t b)
               (all-map (λ i h. h .0) (members t b)
               (all-select (inBucket t b) (λ i. tested i ≡ wanted i) (hashed t)
@@ -140,8 +140,8 @@ module _ (t : Table) (r : Rules t) where
             )
             (walk-is b b-low first-member)
 
-    pub finds-lowest : FindsLowest t wanted (lookup t (gnuHash name) wanted)
-    unfolding lookup bloomFilter
+    pub finds-lowest : FindsLowest t wanted (gnuLookup t (gnuHash name) wanted)
+    unfolding gnuLookup bloomFilter
     finds-lowest =
         let blooms = r .blooms in
         rw (ne-eqb (t .bloomCount) 0 (omega arith), le-ltb 31 (t .shift) (r .shift))
@@ -149,6 +149,6 @@ module _ (t : Table) (r : Rules t) where
         (λ one. by-test (bloomSecond t (gnuHash name))
         (λ two. rw (one, two) bucket-is)
         (λ unset. rw (one, unset) (nothing (none-wanted (bloomSecond t)
-        (λ i lo hi. and-right (bloomFirst t (hashOf t i)) (bloomSecond t (hashOf t i)) (r .bloomed i lo hi)) unset))))
+        (λ i lo hi. and-right (bloomFirst t (gnuHashAt t i)) (bloomSecond t (gnuHashAt t i)) (r .bloomed i lo hi)) unset))))
         (λ unset. rw unset (nothing (none-wanted (bloomFirst t)
-        (λ i lo hi. and-left (bloomFirst t (hashOf t i)) (bloomSecond t (hashOf t i)) (r .bloomed i lo hi)) unset))))
+        (λ i lo hi. and-left (bloomFirst t (gnuHashAt t i)) (bloomSecond t (gnuHashAt t i)) (r .bloomed i lo hi)) unset))))

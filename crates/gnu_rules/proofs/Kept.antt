@@ -4,7 +4,7 @@
 --     accepted-longest            the number that is given is the longest chain
 --     rules                       an accepted table keeps every rule
 use Prim.Native.Nat.{ℕ, suc, _+_, _-_, _^_, _≤_, _<_}
-use mathlib.Core.Path.{_≡_, refl, ap}
+use mathlib.Core.Path.{_≡_, refl}
 use mathlib.Core.Bool.{Bool, true, false, not}
 use mathlib.Core.List.{List, [], _∷_}
 use mathlib.Core.Option.{Option, some, none, Option·some-ne-none}
@@ -15,11 +15,11 @@ use borrow.Author.Tests.{leb-true, eqb-true}
 use Rattle.strings.proofs.Meaning.{false-true}
 use Rattle.lookup.specs.Pick.{from, firstOf, isNone}
 use Rattle.lookup.proofs.Picking.{All, all-map, from-all, none-firstOf, firstOf-passes, and-left, and-right, not-none}
-use Rattle.gnu_table.specs.Table.{Table, hashed}
+use Rattle.gnu_table.specs.Table.{GnuTable, hashed}
 use Rattle.gnu_rules.specs.declared.Checked.the-variants.{Accepted}
-use Rattle.gnu_rules.specs.Rules.{verdict, longest, check, findings, whole, lowest, powerOfTwo, baseWithin, bloomCountPower, someBucket, shiftWithin, enoughValues, nameReadable, valueIsHash, bloomBitsSet, bucketRight, endsAtLast}
+use Rattle.gnu_rules.specs.Rules.{verdict, longest, gnuTableCheck, findings, whole, lowest, powerOfTwo, baseWithin, someBucket, shiftWithin, enoughValues, nameReadable, valueIsHash, bloomBitsSet, bucketRight, endsAtLast}
 
-pub record Rules (t : Table) : Type 0 where
+pub record Rules (t : GnuTable) : Type 0 where
   pub base-low : 1 ≤ t .base
   pub base-high : t .base ≤ t .count
   pub blooms : 1 ≤ t .bloomCount
@@ -48,7 +48,7 @@ lowest-none g a k h i lo hi =
     from-all (λ j. g j ≡ true) a k
     (all-map (λ j e. not-none (g j) e) (from a k) (none-firstOf (λ j. not (g j)) (from a k) h)) i lo hi
 
-lowest-hashed : (t : Table) (g : ℕ → Bool) → lowest g (hashed t) ≡ none → (i : ℕ) → t .base ≤ i → i < t .count → g i ≡ true
+lowest-hashed : (t : GnuTable) (g : ℕ → Bool) → lowest g (hashed t) ≡ none → (i : ℕ) → t .base ≤ i → i < t .count → g i ≡ true
 lowest-hashed t g h i lo hi = lowest-none g (t .base) (t .count - t .base) h i lo (omega arith)
 
 -- a power of two is at least 1
@@ -60,10 +60,10 @@ power-low n h = go (firstOf (λ k. eqb n (2 ^ k)) (from 0 32)) refl h
     go none e h = false-true h
     go (some k) e h = rw (eqb-true n (2 ^ k) (firstOf-passes (λ k. eqb n (2 ^ k)) (from 0 32) k e)) (pow-pos k)
 
-pub accepted-longest : (t : Table) (n : ℕ) → check t ≡ Accepted n → longest t ≡ n
+pub accepted-longest : (t : GnuTable) (n : ℕ) → gnuTableCheck t ≡ Accepted n → longest t ≡ n
 accepted-longest t n h = none-found (longest t) 1 n (findings t) h .1
 
-pub rules : (t : Table) (most : ℕ) → check t ≡ Accepted most → Rules t
+pub rules : (t : GnuTable) (most : ℕ) → gnuTableCheck t ≡ Accepted most → Rules t
 unfolding findings
 rules t most h =
     let n = none-found (longest t) 1 most (findings t) h .0 in
@@ -71,7 +71,7 @@ rules t most h =
     record {
       base-low = leb-true _ _ (and-left (leb 1 (t .base)) (leb (t .base) (t .count)) base);
       base-high = leb-true _ _ (and-right (leb 1 (t .base)) (leb (t .base) (t .count)) base);
-      blooms = power-low (t .bloomCount) (whole-none (bloomCountPower t) (n .1 .0));
+      blooms = power-low (t .bloomCount) (whole-none (powerOfTwo (t .bloomCount)) (n .1 .0));
       buckets = leb-true _ _ (whole-none (someBucket t) (n .1 .1 .0));
       shift = leb-true _ _ (whole-none (shiftWithin t) (n .1 .1 .1 .0));
       values = leb-true _ _ (whole-none (enoughValues t) (n .1 .1 .1 .1 .0));

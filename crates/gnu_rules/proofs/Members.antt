@@ -17,8 +17,8 @@ use Rattle.endian.specs.First.{same}
 use Rattle.strings.proofs.Meaning.{same-refl, same-true}
 use Rattle.lookup.specs.Pick.{from}
 use Rattle.lookup.proofs.Picking.{All, all-from, from-all, all-select, select-all, firstOf-none, firstOf-hit, by-test, and-left, and-right}
-use Rattle.gnu_table.specs.Table.{Table, hashed}
-use Rattle.gnu_rules.specs.Rules.{bucketOf, inBucket, members, isLast, holds}
+use Rattle.gnu_table.specs.Table.{GnuTable, hashed}
+use Rattle.gnu_rules.specs.Rules.{gnuBucketOf, inBucket, members, isLast, holds}
 
 pub holds-run : (v m : ℕ) (ms : List ℕ) → holds v (m ∷ ms) ≡ true → m ∷ ms ≡ from v (suc (length ms))
 holds-run v m ms h =
@@ -33,21 +33,21 @@ run-holds v m ms run =
     let whole : m ∷ ms ≡ from m (suc (length ms)) = run ∙ ap (λ x. from x (suc (length ms))) lowest in
     rw (eq-eqb v m lowest) (subst (λ l. same (m ∷ ms) l ≡ true) whole (same-refl (m ∷ ms)))
 
-pub all-members : (t : Table) (b : ℕ) → All (λ i. ((t .base ≤ i) × (i < t .count)) × (inBucket t b i ≡ true)) (members t b)
+pub all-members : (t : GnuTable) (b : ℕ) → All (λ i. ((t .base ≤ i) × (i < t .count)) × (inBucket t b i ≡ true)) (members t b)
 all-members t b =
     all-select (inBucket t b) (λ i. (t .base ≤ i) × (i < t .count)) (hashed t)
     (all-from _ (t .base) (t .count - t .base) (λ i lo hi. (lo, omega arith)))
 
-pub members-all : (t : Table) (b : ℕ) (P : ℕ → Type 0) → All P (members t b)
+pub members-all : (t : GnuTable) (b : ℕ) (P : ℕ → Type 0) → All P (members t b)
     → (i : ℕ) → t .base ≤ i → i < t .count → inBucket t b i ≡ true → P i
 members-all t b P h i lo hi =
     from-all (λ i. inBucket t b i ≡ true → P i) (t .base) (t .count - t .base)
     (select-all (inBucket t b) P (hashed t) h) i lo (omega arith)
 
-pub no-member : (t : Table) (b : ℕ) → members t b ≡ [] → (i : ℕ) → t .base ≤ i → i < t .count → inBucket t b i ≡ true → ⊥
+pub no-member : (t : GnuTable) (b : ℕ) → members t b ≡ [] → (i : ℕ) → t .base ≤ i → i < t .count → inBucket t b i ≡ true → ⊥
 no-member t b e = members-all t b (λ i. ⊥) (subst⁻¹ (All _) e tt)
 
-module _ (t : Table) (b v k : ℕ) (run : members t b ≡ from v (suc k)) where
+module _ (t : GnuTable) (b v k : ℕ) (run : members t b ≡ from v (suc k)) where
   pub inside : (i : ℕ) → v ≤ i → i < v + suc k → ((t .base ≤ i) × (i < t .count)) × (inBucket t b i ≡ true)
   inside = from-all _ v (suc k) (subst (All _) run (all-members t b))
 
@@ -59,7 +59,7 @@ module _ (t : Table) (b v k : ℕ) (run : members t b ≡ from v (suc k)) where
   unfolding isLast
   last =
       let end = inside (v + k) (omega arith) (omega arith) in
-      let e = eqb-true (bucketOf t (v + k)) b (end .1) in
+      let e = eqb-true (gnuBucketOf t (v + k)) b (end .1) in
       let none-later =
       all-from (λ i. inBucket t b i ≡ false) (suc (v + k)) (t .count - suc (v + k))
       (λ i lo hi. by-test (inBucket t b i) (λ h. let o = outside i (omega arith) (omega arith) h in absurd (omega arith))
@@ -69,6 +69,6 @@ module _ (t : Table) (b v k : ℕ) (run : members t b ≡ from v (suc k)) where
   pub not-last : (i : ℕ) → v ≤ i → i < v + k → isLast t i ≡ false
   unfolding isLast
   not-last i lo hi =
-      let e = eqb-true (bucketOf t i) b (inside i lo (omega arith) .1) in
+      let e = eqb-true (gnuBucketOf t i) b (inside i lo (omega arith) .1) in
       let next = inside (suc i) (omega arith) (omega arith) in
       rw (e, firstOf-hit (inBucket t b) (suc i) (t .count - suc i) (omega arith) (next .1)) refl

@@ -6,9 +6,9 @@ use mathlib.Core.Path.{_≡_}
 use mathlib.Core.Bool.{true, false}
 use borrow.Author.Tests.{eq-eqb, ne-eqb, lt-ltb, le-ltb}
 use Rattle.gnu_table.specs.declared.filter.Bloom.the-variants.{Passes, Stops, Refuses}
-use Rattle.gnu_table.specs.Table.{Table, bloomFirst, bloomSecond, bloomFilter}
+use Rattle.gnu_table.specs.Table.{GnuTable, bloomFirst, bloomSecond, bloomFilter}
 
-module _ (t : Table) (h : ℕ) where
+module _ (t : GnuTable) (h : ℕ) where
   pub filter-none : t .bloomCount ≡ 0 → bloomFilter t h ≡ Stops
   unfolding bloomFilter
   filter-none e = rw (eq-eqb _ _ e)

@@ -10,8 +10,7 @@ use Rattle.endian.specs.declared.kinds.Order.{Order}
 use Rattle.endian.specs.Refusals.{limit, tooLong, badGnuHeader, badGnuBloom, badGnuBuckets}
 use Rattle.endian.specs.Word.{wordAt}
 use Rattle.gnu_table.specs.declared.header.HeaderAt.the-variants.{At, Refused}
-use Rattle.gnu_table.specs.Layout.{bucketCountOf, bloomCountOf, bucketsAt, valuesAt}
-use Rattle.gnu_table.specs.Header.{layoutOf, gnuHeader}
+use Rattle.gnu_table.specs.Header.{bucketsAt, valuesAt, layoutOf, gnuHeader}
 
 module _ (class : Class) (order : Order) (table : List ℕ) where
   pub header-long : limit < length table → gnuHeader class order table ≡ Refused tooLong
@@ -40,8 +39,8 @@ module _ (class : Class) (order : Order) (table : List ℕ) where
         module _ (buckets : valuesAt class order table ≤ length table) where
           -- the same, of numbers that are those of the layout
           pub header-is : {bucketCount base bloomCount shift buckets-at values-at : ℕ}
-              → bucketCount ≡ bucketCountOf class order table → base ≡ wordAt order 4 table 4
-              → bloomCount ≡ bloomCountOf class order table → shift ≡ wordAt order 4 table 12
+              → bucketCount ≡ wordAt order 4 table 0 → base ≡ wordAt order 4 table 4
+              → bloomCount ≡ wordAt order 4 table 8 → shift ≡ wordAt order 4 table 12
               → buckets-at ≡ bucketsAt class order table → values-at ≡ valuesAt class order table
               → At (record {
                 «bucket_count» = bucketCount;

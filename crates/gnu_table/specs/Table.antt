@@ -1,10 +1,10 @@
 -- A GNU hash table over its symbols, as numbers and functions, and what its bloom filter says.
 -- Source: the published GNU hash convention; 01, "Lookups", for what it leaves open.
---     Table                  the table, its symbols' names and how many symbols there are
---     bit, odd, sameButLow   a bit of a word; the low bit; equal but for the low bit
---     hashed, valueOf        the hashed symbols; the value that belongs to one
+--     GnuTable                   the table, its symbols' names and how many symbols there are
+--     bit, odd, sameButLow       a bit of a word; the low bit; equal but for the low bit
+--     hashed, valueOf            the hashed symbols; the value that belongs to one
 --     bloomFirst, bloomSecond    the two tests of the bloom filter
---     bloomFilter            whether the bloom filter lets a hash pass
+--     bloomFilter                whether the bloom filter lets a hash pass
 -- Assumes nothing.
 use Prim.Native.Nat.{ℕ, _-_, _/_, _%_, _^_}
 use mathlib.Core.Bool.{Bool, cond, not}
@@ -16,7 +16,7 @@ use Rattle.lookup.specs.Pick.{from}
 use Rattle.gnu_table.specs.declared.filter.Bloom.{Bloom}
 use Rattle.gnu_table.specs.declared.filter.Bloom.the-variants.{Passes, Stops, Refuses}
 
-pub record Table : Type 0 where
+pub record GnuTable : Type 0 where
   -- the header: bucket_count, symbol_base, bloom_count, bloom_shift
   pub bucketCount : ℕ
   pub base : ℕ
@@ -44,7 +44,7 @@ odd n = eqb (n % 2) 1
 abbrev pub sameButLow : ℕ → ℕ → Bool
 sameButLow a b = eqb (a / 2) (b / 2)
 
-module _ (t : Table) where
+module _ (t : GnuTable) where
   -- the hashed symbols: symbol_base to n - 1
   abbrev pub hashed : List ℕ
   hashed = from (t .base) (t .count - t .base)
@@ -64,7 +64,7 @@ module _ (t : Table) where
   bloomSecond h = bit (bloomWord h) (h / 2 ^ t .shift % t .width)
 
 -- no bloom words, a bit unset, a shift above 31 where the second bit is reached (30), or both bits set
-unfoldable pub bloomFilter : Table → ℕ → Bloom
+unfoldable pub bloomFilter : GnuTable → ℕ → Bloom
 bloomFilter t h =
     cond (eqb (t .bloomCount) 0) Stops
     (cond (not (bloomFirst t h)) Stops

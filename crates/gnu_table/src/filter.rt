@@ -9,8 +9,8 @@ ghost use mathlib.Core.Path.{_≡_};
 ghost use Prim.Native.Nat.{_<_};
 ghost use Rattle.endian.specs.Word.{wordAt};
 ghost use Rattle.gnu_table.specs.Table.{bit, bloomFilter};
-ghost use Rattle.gnu_table.specs.Layout.{wordSize};
-ghost use Rattle.gnu_table.specs.Header.{tableAt, bloomWordAt};
+ghost use Rattle.gnu_table.specs.Header.{wordSize};
+ghost use Rattle.gnu_table.specs.Places.{tableAt, bloomWordAt};
 
 // What it says of a hash: walk on, nothing is there, or a shift above 31 was reached.
 pub enum Bloom {

@@ -10,8 +10,7 @@ use endian::refusals::TOO_LONG;
 use word::u32_at;
 ghost use mathlib.Core.Path.{_≡_};
 ghost use Prim.Native.Nat.{_≤_, _<_};
-ghost use Rattle.gnu_table.specs.Layout.{wordSize};
-ghost use Rattle.gnu_table.specs.Header.{gnuHeader};
+ghost use Rattle.gnu_table.specs.Header.{wordSize, gnuHeader};
 
 // The header's four numbers; then the places of the buckets and of the values, and how many values
 // there are.

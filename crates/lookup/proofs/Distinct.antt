@@ -5,23 +5,21 @@
 -- Assumes nothing.
 use Prim.Native.Nat.{ℕ}
 use mathlib.Core.Path.{_≡_, refl, sym, ap, _∙_}
-use mathlib.Core.Bool.{Bool, true, false, _&&_}
+use mathlib.Core.Bool.{Bool, true}
 use mathlib.Core.List.{List}
 use mathlib.Core.Option.{Option, some, none}
 use lib.ListN.{length}
 use Rattle.symbol.specs.Table.{symbolIndex}
 use Rattle.endian.specs.declared.kinds.Class.{Class}
 use Rattle.endian.specs.declared.kinds.Order.{Order}
-use Rattle.endian.specs.First.{same}
 use Rattle.strings.proofs.Meaning.{false-true, same-true}
 use Rattle.symbol.specs.declared.table.SymbolIndex.{SymbolIndex}
 use Rattle.version_match.specs.declared.Need.{Need}
 use Rattle.version_match.specs.Match.{matching}
 use Rattle.version_match.proofs.Decides.{match-one}
-use Rattle.lookup.specs.declared.Answer.{Answer}
-use Rattle.lookup.specs.declared.Answer.the-variants.{Found, Missing, Refused}
+use Rattle.lookup.specs.declared.Answer.the-variants.{Found}
 use Rattle.lookup.specs.Pick.{firstOf, upTo}
-use Rattle.lookup.specs.Wanted.{Parts, Asked, nameOf, isNamed, wanted, wantedIn, answerOf, walk}
+use Rattle.lookup.specs.Wanted.{Parts, Asked, nameOf, isNamed, wanted, wantedIn, answerAfter, walk}
 use Rattle.lookup.proofs.Picking.{and-left, and-right, firstOf-passes}
 
 -- a name that is read and is the one asked for
@@ -80,7 +78,7 @@ pub walk-wanted : (match : ℕ → Bool) (xs : List ℕ) (i probes : ℕ) → wa
     → match i ≡ true
 walk-wanted match xs i probes h = by (firstOf match xs) refl h
   where
-    by : (o : Option ℕ) → firstOf match xs ≡ o → answerOf o (length (upTo match xs)) ≡ Found (symbolIndex i) probes
+    by : (o : Option ℕ) → firstOf match xs ≡ o → answerAfter o (length (upTo match xs)) ≡ Found (symbolIndex i) probes
         → match i ≡ true
     by none e h = cc
     by (some j) e h = rw (← (found-one j i (length (upTo match xs)) probes h)) (firstOf-passes match xs j e)

@@ -1,4 +1,5 @@
--- The first number from a on and below e that passes a test, or e. Assumes nothing.
+-- Need not be believed: the first number from a on and below e that passes a test, or e. Contracts of the checkers' passes
+-- cite it. Assumes nothing.
 use Prim.Native.Nat.{ℕ, _-_}
 use mathlib.Core.Bool.{Bool}
 use mathlib.Core.Option.{Option·getD}

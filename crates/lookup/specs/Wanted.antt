@@ -8,22 +8,20 @@
 --     walk          the first match on a list of numbers, and how many of them were tested
 -- Assumes nothing.
 use Prim.Native.Nat.{ℕ}
-use mathlib.Core.Bool.{Bool, true, false, _&&_}
+use mathlib.Core.Bool.{Bool, false, _&&_}
 use mathlib.Core.List.{List, [], _∷_}
 use mathlib.Core.Option.{Option, some, none}
 use lib.ListN.{length, take, drop}
 use Rattle.endian.specs.declared.kinds.Class.{Class}
 use Rattle.endian.specs.declared.kinds.Order.{Order}
-use Rattle.endian.specs.declared.refusals.Refusal.{Refusal}
 use Rattle.strings.specs.declared.StringAt.{StringAt}
 use Rattle.strings.specs.declared.StringAt.the-variants.{At, Refused as String·Refused}
 use Rattle.endian.specs.First.{same}
-use Rattle.symbol.specs.declared.table.SymbolIndex.{SymbolIndex}
 use Rattle.symbol.specs.Table.{symbolName, symbolIndex}
 use Rattle.version_match.specs.declared.Need.{Need}
 use Rattle.version_match.specs.Match.{matching}
 use Rattle.lookup.specs.declared.Answer.{Answer}
-use Rattle.lookup.specs.declared.Answer.the-variants.{Found, Missing, Refused}
+use Rattle.lookup.specs.declared.Answer.the-variants.{Found, Missing}
 use Rattle.lookup.specs.Pick.{firstOf, upTo}
 
 pub record Parts : Type 0 where
@@ -68,9 +66,9 @@ wanted class order p asked =
     wantedIn class order (p .symbols) (p .strings) (p .versyms) (p .store) (p .versionStrings) asked
 
 -- a symbol, or none, after so many probes
-abbrev pub answerOf : Option ℕ → ℕ → Answer
-answerOf (some i) probes = Found (symbolIndex i) probes
-answerOf none probes = Missing probes
+abbrev pub answerAfter : Option ℕ → ℕ → Answer
+answerAfter (some i) probes = Found (symbolIndex i) probes
+answerAfter none probes = Missing probes
 
 abbrev pub walk : (ℕ → Bool) → List ℕ → Answer
-walk match xs = answerOf (firstOf match xs) (length (upTo match xs))
+walk match xs = answerAfter (firstOf match xs) (length (upTo match xs))

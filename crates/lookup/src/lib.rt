@@ -11,7 +11,7 @@ use version_match::Need;
 use version_match::matches;
 ghost use mathlib.Core.Path.{_≡_};
 ghost use Prim.Native.Nat.{min};
-ghost use Rattle.lookup.specs.Wanted.{Asked, nameOf, isNamed, wantedIn};
+ghost use Rattle.lookup.specs.Wanted.{nameOf, isNamed, wantedIn};
 
 // A symbol and the probes that were made, the probes alone where there is none, or a refusal.
 pub enum Answer {

@@ -1,4 +1,5 @@
--- Which names of symbols can be read (01, "GNU checker", G6, and "SysV checker", T2).
+-- Need not be believed: which names of symbols can be read, as the pass for G6 and T2 asks it (01, "GNU checker" and "SysV
+-- checker"). Both checkers are proved to be their rules through it.
 --     readableIn     a symbol's name can be read
 --     readableEnd    the place before which a string that can be read starts
 --     startsBelow    of a symbol that was looked for: its name starts below a place

@@ -24,36 +24,37 @@ fn readable_end(strings: &[u8]) -> usize
 }
 
 // Whether there is such a symbol and its name starts below a place.
-fn starts_below(class: Class, order: Order, symbols: &[u8], end: usize, i: u32) -> bool
-    ensures { λ r. ⌜ r ≡ startsBelow end (symbolAt class order (now (symbols .entry)) (symbolIndex i)) ⌝ }
+fn starts_below(class: Class, order: Order, symbols: &[u8], end: usize, symbol: SymbolIndex) -> bool
+    ensures { λ r. ⌜ r ≡ startsBelow end (symbolAt class order (now (symbols .entry)) symbol) ⌝ }
 {
-    match symbol_at(class, order, symbols, SymbolIndex(i)) {
+    match symbol_at(class, order, symbols, symbol) {
         SymbolAt::At(entry) => (entry.name as usize) < end,
         SymbolAt::Refused(_) => false,
     }
 }
 
-// The lowest symbol from `low` on and below `count` whose name cannot be read, or `count` where there
-// is none. The strings' last zero is looked for once: a name can be read exactly if it starts before
+// The lowest symbol from `low` on and below `count` whose name cannot be read, or number `count` where
+// there is none. The strings' last zero is looked for once: a name can be read exactly if it starts before
 // the end of that string.
 pub fn lowest_unreadable(
     class: Class,
     order: Order,
     symbols: &[u8],
     strings: &[u8],
-    low: u32,
+    low: SymbolIndex,
     count: u32,
-) -> u32
+) -> SymbolIndex
     ensures { λ r. ⌜ r
-        ≡ firstFrom (λ i. not (readableIn class order (now (symbols .entry)) (now (strings .entry)) i)) low count ⌝ }
+        ≡ symbolIndex
+        (firstFrom (λ i. not (readableIn class order (now (symbols .entry)) (now (strings .entry)) i)) (low .0) count) ⌝ }
 {
     let end = readable_end(strings);
-    let mut i = low;
+    let mut i = low.0;
     while i < count {
-        if !starts_below(class, order, symbols, end, i) {
-            return i;
+        if !starts_below(class, order, symbols, end, SymbolIndex(i)) {
+            return SymbolIndex(i);
         }
         i += 1;
     }
-    count
+    SymbolIndex(count)
 }

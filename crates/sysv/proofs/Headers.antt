@@ -19,9 +19,10 @@ use Rattle.lookup.specs.declared.Answer.{Answer}
 use Rattle.lookup.specs.Wanted.{Parts, Asked, wanted, walk}
 use Rattle.sysv_header.specs.declared.header.Header.{Header}
 use Rattle.sysv_header.specs.declared.header.HeaderAt.{HeaderAt}
-use Rattle.sysv_header.specs.Header.{fault, headerOf, headerAt, headerUnless}
-use Rattle.sysv.specs.Layout.{tableOf}
-use Rattle.sysv.specs.Table.{visited, lookup}
+use Rattle.sysv_header.specs.Header.{sysvFault}
+use Rattle.sysv_header.specs.Reading.{headerOf, headerAt}
+use Rattle.sysv.specs.Layout.{sysvTableOf}
+use Rattle.sysv.specs.Table.{visited, sysvLookup}
 use Rattle.sysv.specs.Find.{sysvTable, sysvFind}
 
 abbrev pub findFrom : HeaderAt → Answer → Answer
@@ -35,14 +36,14 @@ module _ (class : Class) (order : Order) (p : Parts) (asked : Asked) (hash : ℕ
 
   pub find-from : sysvFind class order p asked hash
       ≡ cond (anyLong otherParts) (Answer.Refused tooLong)
-      (findFrom (headerAt order (p .table)) (lookup (sysvTable class order p) hash (wanted class order p asked)))
+      (findFrom (headerAt order (p .table)) (sysvLookup (sysvTable class order p) hash (wanted class order p asked)))
   unfolding sysvFind headerAt
-  find-from = by (ltb limit (length (p .table))) (anyLong otherParts) (fault order (p .table)) _
+  find-from = by (ltb limit (length (p .table))) (anyLong otherParts) (sysvFault order (p .table)) _
     where
       by : (t u : Bool) (o : Option Refusal) (answer : Answer)
           → cond (cond t true u) (Answer.Refused tooLong) (unlessRefused Answer.Refused o answer)
           ≡ cond u (Answer.Refused tooLong)
-          (findFrom (cond t (HeaderAt.Refused tooLong) (headerUnless o (headerOf order (p .table)))) answer)
+          (findFrom (cond t (HeaderAt.Refused tooLong) (unlessRefused HeaderAt.Refused o (HeaderAt.At (headerOf order (p .table))))) answer)
       by true true o answer = refl
       by true false o answer = refl
       by false true o answer = refl
@@ -52,15 +53,15 @@ module _ (class : Class) (order : Order) (p : Parts) (asked : Asked) (hash : ℕ
 module _ (class : Class) (order : Order) (table symbols strings : List ℕ) (hash : ℕ) (match : ℕ → Bool) (header : Header)
     (own : header ≡ headerOf order table) where
   pub lookup-none : header .«bucket_count» ≡ 0
-      → lookup (tableOf order table class symbols strings) hash match ≡ Answer.Missing 0
-  unfolding lookup
+      → sysvLookup (sysvTableOf order table class symbols strings) hash match ≡ Answer.Missing 0
+  unfolding sysvLookup
   lookup-none empty = let e = rw own at empty in rw (eq-eqb _ _ e)
 
   pub lookup-walk : ¬ (header .«bucket_count» ≡ 0)
-      → lookup (tableOf order table class symbols strings) hash match
+      → sysvLookup (sysvTableOf order table class symbols strings) hash match
       ≡ walk match
       (visited (header .«chain_count»)
       (λ i. wordAt order 4 table (8 + header .«bucket_count» * 4 + i * 4)) (header .«chain_count»)
       (wordAt order 4 table (8 + hash % header .«bucket_count» * 4)))
-  unfolding lookup
+  unfolding sysvLookup
   lookup-walk some-bucket = let e = rw own at some-bucket in rw (own, ne-eqb _ _ e)

@@ -18,13 +18,13 @@ use Rattle.version_match.specs.Match.{matching}
 use Rattle.lookup.specs.declared.Answer.the-variants.{Found, Missing, Refused}
 use Rattle.lookup.specs.Wanted.{Parts, Asked, allParts, nameOf, wanted, walk}
 use Rattle.lookup.proofs.Distinct.{Same, wanted-named, wanted-fits, wanted-one, walk-wanted}
-use Rattle.sysv_header.specs.Header.{fault}
-use Rattle.sysv.specs.Table.{Table, numbers, lookup}
+use Rattle.sysv_header.specs.Header.{sysvFault}
+use Rattle.sysv.specs.Table.{SysvTable, numbers, sysvLookup}
 use Rattle.sysv.specs.Find.{sysvTable, sysvFind}
 
-lookup-wanted : (t : Table) (hash : ℕ) (match : ℕ → Bool) (i probes : ℕ) → lookup t hash match ≡ Found (symbolIndex i) probes
+lookup-wanted : (t : SysvTable) (hash : ℕ) (match : ℕ → Bool) (i probes : ℕ) → sysvLookup t hash match ≡ Found (symbolIndex i) probes
     → match i ≡ true
-unfolding lookup
+unfolding sysvLookup
 lookup-wanted t hash match i probes h = by (eqb (t .bucketCount) 0) h
   where
     by : (b : Bool) → cond b (Missing 0) (walk match (numbers t (hash % t .bucketCount))) ≡ Found (symbolIndex i) probes
@@ -36,11 +36,11 @@ module _ (class : Class) (order : Order) (p : Parts) where
   module _ (asked : Asked) (hash i probes : ℕ) (found : sysvFind class order p asked hash ≡ Found (symbolIndex i) probes) where
     pub find-wanted : wanted class order p asked i ≡ true
     unfolding sysvFind
-    find-wanted = by (anyLong (allParts p asked)) (fault order (p .table)) found
+    find-wanted = by (anyLong (allParts p asked)) (sysvFault order (p .table)) found
       where
         by : (long : Bool) (o : Option Refusal)
             → cond long (Refused tooLong)
-            (unlessRefused Refused o (lookup (sysvTable class order p) hash (wanted class order p asked)))
+            (unlessRefused Refused o (sysvLookup (sysvTable class order p) hash (wanted class order p asked)))
             ≡ Found (symbolIndex i) probes
             → wanted class order p asked i ≡ true
         by true o h = cc

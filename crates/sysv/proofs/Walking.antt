@@ -18,7 +18,7 @@ use Rattle.symbol.specs.Table.{symbolIndex}
 use Rattle.lookup.specs.declared.Answer.{Answer}
 use Rattle.lookup.specs.declared.Answer.the-variants.{Found, Missing}
 use Rattle.lookup.specs.Pick.{firstOf, upTo}
-use Rattle.lookup.specs.Wanted.{answerOf, walk}
+use Rattle.lookup.specs.Wanted.{answerAfter, walk}
 use Rattle.sysv.specs.Table.{visited}
 
 module _ (match : ℕ → Bool) (chains : ℕ) (chain : ℕ → ℕ) (start : ℕ) where
@@ -27,7 +27,7 @@ module _ (match : ℕ → Bool) (chains : ℕ) (chain : ℕ → ℕ) (start : �
 
   -- what the numbers that are left answer after n probes
   abbrev after : ℕ → List ℕ → Answer
-  after n xs = answerOf (firstOf match xs) (n + length (upTo match xs))
+  after n xs = answerAfter (firstOf match xs) (n + length (upTo match xs))
 
   unfoldable pub Walking : (i probes : ℕ) → Type 0
   Walking i n = after n (visited chains chain (chains - n) i) ≡ whole
@@ -36,7 +36,7 @@ module _ (match : ℕ → Bool) (chains : ℕ) (chain : ℕ → ℕ) (start : �
   unfolding Walking
   walking-start =
       let z : chains - 0 ≡ chains = omega arith in
-      rw z (ap (answerOf (firstOf match (visited chains chain chains start)))
+      rw z (ap (answerAfter (firstOf match (visited chains chain chains start)))
       (zero-add (length (upTo match (visited chains chain chains start)))))
 
   after-zero : (n k : ℕ) → after n (visited chains chain k 0) ≡ Missing n
@@ -80,5 +80,5 @@ module _ (match : ℕ → Bool) (chains : ℕ) (chain : ℕ → ℕ) (start : �
           let rest = visited chains chain (chains - (n + 1)) (chain i) in
           let one-more : n + suc (length (upTo match rest)) ≡ n + 1 + length (upTo match rest) = omega arith in
           let on : after n (visited chains chain (chains - n) i) ≡ after (n + 1) rest =
-          rw (here, m, lt-ltb i chains below) (ap (answerOf (firstOf match rest)) one-more) in
+          rw (here, m, lt-ltb i chains below) (ap (answerAfter (firstOf match rest)) one-more) in
           sym on ∙ at

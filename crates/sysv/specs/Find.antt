@@ -7,14 +7,14 @@ use Rattle.endian.specs.declared.kinds.Order.{Order}
 use Rattle.endian.specs.Refusals.{anyLong, tooLong, unlessRefused}
 use Rattle.lookup.specs.declared.Answer.{Answer}
 use Rattle.lookup.specs.Wanted.{Parts, Asked, allParts, wanted}
-use Rattle.sysv_header.specs.Header.{fault}
-use Rattle.sysv.specs.Table.{Table, lookup}
-use Rattle.sysv.specs.Layout.{tableOf}
+use Rattle.sysv_header.specs.Header.{sysvFault}
+use Rattle.sysv.specs.Table.{SysvTable, sysvLookup}
+use Rattle.sysv.specs.Layout.{sysvTableOf}
 
-abbrev pub sysvTable : Class → Order → Parts → Table
-sysvTable class order p = tableOf order (p .table) class (p .symbols) (p .strings)
+abbrev pub sysvTable : Class → Order → Parts → SysvTable
+sysvTable class order p = sysvTableOf order (p .table) class (p .symbols) (p .strings)
 
 unfoldable pub sysvFind : Class → Order → Parts → Asked → (hash : ℕ) → Answer
 sysvFind class order p asked hash =
     cond (anyLong (allParts p asked)) (Answer.Refused tooLong)
-    (unlessRefused Answer.Refused (fault order (p .table)) (lookup (sysvTable class order p) hash (wanted class order p asked)))
+    (unlessRefused Answer.Refused (sysvFault order (p .table)) (sysvLookup (sysvTable class order p) hash (wanted class order p asked)))

@@ -16,11 +16,10 @@ ghost use mathlib.Core.List.{[], _∷_};
 ghost use Prim.Native.Nat.{_+_, _*_, _^_, _<_};
 ghost use Rattle.endian.specs.Refusals.{anyLong};
 ghost use Rattle.endian.specs.Word.{wordAt};
-ghost use Rattle.lookup.specs.Wanted.{wantedIn};
-ghost use Rattle.lookup.specs.Wanted.{walk as walkOf};
-ghost use Rattle.sysv_header.specs.Header.{headerOf};
-ghost use Rattle.sysv.specs.Layout.{tableOf};
-ghost use Rattle.sysv.specs.Table.{visited, lookup};
+ghost use Rattle.lookup.specs.Wanted.{wantedIn, walk as walkOf};
+ghost use Rattle.sysv_header.specs.Reading.{headerOf};
+ghost use Rattle.sysv.specs.Layout.{sysvTableOf};
+ghost use Rattle.sysv.specs.Table.{visited, sysvLookup};
 ghost use Rattle.sysv.specs.Find.{sysvFind};
 
 // Whether a part is too long, the table and the store apart.
@@ -130,7 +129,7 @@ fn lookup_at(
 ) -> Answer
     requires { ⌜ header ≡ headerOf order (now table) ⌝ }
     ensures { λ r. ⌜ r
-        ≡ lookup (tableOf order (now (table .entry)) class (now (symbols .entry)) (now (strings .entry))) hash
+        ≡ sysvLookup (sysvTableOf order (now (table .entry)) class (now (symbols .entry)) (now (strings .entry))) hash
         (wantedIn class order (now (symbols .entry)) (now (strings .entry)) (now (versyms .entry)) (now (store .entry))
         (now («version_strings» .entry)) (record { name = now (name .entry); need = need; needName = now («need_name» .entry) })) ⌝ }
 {

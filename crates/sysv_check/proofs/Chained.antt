@@ -17,7 +17,8 @@ use borrow.Author.Tests.{eqb-true, eqb-false, eq-eqb, ne-eqb, ltb-true, lt-ltb}
 use Rattle.lookup.proofs.Picking.{All, all-map, by-test, and-left, and-right}
 use Rattle.sysv.specs.Table.{visited}
 use Rattle.sysv_check.specs.Count.{times}
-use Rattle.sysv_check.specs.Rules.{ends, Chain}
+use Rattle.sysv_check.specs.Rules.{ends}
+use Rattle.sysv_check.specs.Accepted.{Chain}
 use Rattle.sysv_check.proofs.Counting.{sum-le, sum-times, times-none}
 
 module _ (n : ℕ) (next : ℕ → ℕ) where

@@ -4,7 +4,7 @@
 -- steps are n - low.
 -- Assumes nothing.
 use mathlib.Core.Path.{_≡_, refl, sym, ap, _∙_, subst}
-use mathlib.Core.Bool.{Bool, true, false, _&&_, true≢false}
+use mathlib.Core.Bool.{Bool, true, _&&_, true≢false}
 use mathlib.Core.List.{List, [], _∷_, _++_}
 use mathlib.Core.Option.{Option, some, none, Option·none-ne-some}
 use Prim.Native.Nat.{ℕ, zero, suc, _+_, _-_, _≤_, _<_}
@@ -15,10 +15,12 @@ use lib.ListN.{length, length-append}
 use borrow.Author.Tests.{leb-true, ltb-true, eqb-true, eqb-false, eq-eqb, ne-eqb, le-leb, lt-ltb}
 use Rattle.lookup.specs.Pick.{from}
 use Rattle.lookup.proofs.Picking.{All, all-map, all-from, from-all, by-test, and-left, and-right, test-ext}
-use Rattle.sysv.specs.Table.{Table, numbers}
+use Rattle.sysv.specs.Table.{SysvTable, numbers}
 use Rattle.sysv_check.specs.Count.{times}
-use Rattle.sysv_check.specs.Rules.{bucketOf, Chain, right, t1, t3, t3At}
-use Rattle.sysv_check_chains.specs.Pass.{hashOf, mayStand, follow, onward, followAll, spent, allSpent}
+use Rattle.sysv_check.specs.Rules.{sysvBucketOf, right, t1, t3, t3At}
+use Rattle.sysv_check.specs.Accepted.{Chain}
+use Rattle.sysv_check_chains.specs.Pass.{mayStand, follow, onward, followAll, spent, allSpent}
+use Rattle.sysv_check_chains.specs.Hash.{sysvHashAt}
 use Rattle.sysv_check.proofs.Counting.{sum, sum-single, sum-times, sum-ones, all-ones, all-every, all-append, times-append, times-none, times-all, all-times}
 use Rattle.sysv_check.proofs.Chained.{chain-range, no-repeat, chain-whole}
 use Rattle.sysv_check.proofs.Ruled.{Shape, shape, placed, right-both}
@@ -30,7 +32,7 @@ spent-some : (o : Option ℕ) → spent o ≡ true → o ≡ some 0
 spent-some none h = cc
 spent-some (some k) h = ap (λ x. some x) (eqb-true k 0 h)
 
-module _ (t : Table) where
+module _ (t : SysvTable) where
   -- the numbers on the chains of these buckets, one after the other
   abbrev together : List ℕ → List ℕ
   together [] = []
@@ -45,9 +47,9 @@ module _ (t : Table) where
   abbrev all : List ℕ
   all = together (from 0 (t .bucketCount))
 
-module _ (t : Table) (low : ℕ) where
+module _ (t : SysvTable) (low : ℕ) where
   abbrev may : (b i : ℕ) → Bool
-  may = mayStand (bucketOf t) low (t .count)
+  may = mayStand (sysvBucketOf t) low (t .count)
 
   -- the chain of bucket b is as it should be
   record Whole (b : ℕ) : Type 0 where
@@ -67,12 +69,12 @@ module _ (t : Table) (low : ℕ) where
     wholes : All Whole bs
     steps : length (together t bs) + r ≡ k
 
-  may-facts : (b x : ℕ) → may b x ≡ true → (low ≤ x) × (x < t .count) × (bucketOf t x ≡ b)
+  may-facts : (b x : ℕ) → may b x ≡ true → (low ≤ x) × (x < t .count) × (sysvBucketOf t x ≡ b)
   may-facts b x h =
-      let rest = and-right (leb low x) (ltb x (t .count) && eqb (bucketOf t x) b) h in (
-        leb-true low x (and-left (leb low x) (ltb x (t .count) && eqb (bucketOf t x) b) h),
-        ltb-true x (t .count) (and-left (ltb x (t .count)) (eqb (bucketOf t x) b) rest),
-        eqb-true (bucketOf t x) b (and-right (ltb x (t .count)) (eqb (bucketOf t x) b) rest),
+      let rest = and-right (leb low x) (ltb x (t .count) && eqb (sysvBucketOf t x) b) h in (
+        leb-true low x (and-left (leb low x) (ltb x (t .count) && eqb (sysvBucketOf t x) b) h),
+        ltb-true x (t .count) (and-left (ltb x (t .count)) (eqb (sysvBucketOf t x) b) rest),
+        eqb-true (sysvBucketOf t x) b (and-right (ltb x (t .count)) (eqb (sysvBucketOf t x) b) rest),
       )
 
   module _ (s : Shape t low) where
@@ -148,18 +150,18 @@ module _ (t : Table) (low : ℕ) where
       whole-at : (b : ℕ) → b < t .bucketCount → Whole b
       whole-at b hi = from-all Whole 0 (t .bucketCount) wholes b (omega arith) (omega arith)
 
-      elsewhere : (b i : ℕ) → b < t .bucketCount → ¬ (bucketOf t i ≡ b) → times i (numbers t b) ≡ 0
+      elsewhere : (b i : ℕ) → b < t .bucketCount → ¬ (sysvBucketOf t i ≡ b) → times i (numbers t b) ≡ 0
       elsewhere b i hb ne =
           times-none i (numbers t b)
-          (all-map (λ x g x-is-i. ne (subst (λ y. bucketOf t y ≡ b) x-is-i (may-facts b x g .2))) (numbers t b)
+          (all-map (λ x g x-is-i. ne (subst (λ y. sysvBucketOf t y ≡ b) x-is-i (may-facts b x g .2))) (numbers t b)
           (whole-at b hb .goods))
 
       -- a number stands on all chains together as often as on its own
-      own : (i : ℕ) → times i (all t) ≡ times i (numbers t (bucketOf t i))
+      own : (i : ℕ) → times i (all t) ≡ times i (numbers t (sysvBucketOf t i))
       own i =
-          let hi = mod-lt (hashOf (t .name) i) (s .buckets) in
+          let hi = mod-lt (sysvHashAt (t .name) i) (s .buckets) in
           times-together t i 0 (t .bucketCount)
-          ∙ sum-single (λ b. times i (numbers t b)) 0 (t .bucketCount) (bucketOf t i) (omega arith) (omega arith)
+          ∙ sum-single (λ b. times i (numbers t b)) 0 (t .bucketCount) (sysvBucketOf t i) (omega arith) (omega arith)
           (λ b lo' hi' ne. elsewhere b i (omega arith) (λ z. ne (sym z)))
 
       in-range : (bs : List ℕ) → All Whole bs → All (λ x. (low ≤ x) × (x < low + (t .count - low))) (together t bs)
@@ -175,22 +177,22 @@ module _ (t : Table) (low : ℕ) where
 
       -- as many steps as numbers: each number is met once
       module _ (steps : length (all t) ≡ t .count - low) where
-        met : (i : ℕ) → low ≤ i → i < t .count → times i (numbers t (bucketOf t i)) ≡ 1
+        met : (i : ℕ) → low ≤ i → i < t .count → times i (numbers t (sysvBucketOf t i)) ≡ 1
         met i lo hi =
             sym (own i)
             ∙ all-ones (λ j. times j (all t)) low (t .count - low)
             (λ j lo' hi'. let e = own j in
-            let few = no-repeat (t .chainCount) (t .chain) (t .bucket (bucketOf t j)) (numbers t (bucketOf t j))
-            (whole-at (bucketOf t j) (mod-lt (hashOf (t .name) j) (s .buckets)) .path) j in omega arith)
+            let few = no-repeat (t .chainCount) (t .chain) (t .bucket (sysvBucketOf t j)) (numbers t (sysvBucketOf t j))
+            (whole-at (sysvBucketOf t j) (mod-lt (sysvHashAt (t .name) j) (s .buckets)) .path) j in omega arith)
             (total ∙ steps) i lo (omega arith)
 
         right-at : (b i : ℕ) → b < t .bucketCount → 1 ≤ i → i < t .count → times i (numbers t b) ≡ right t low b i
         right-at b i hb lo hi =
             by-test (leb low i)
-            (λ l. by-test (eqb (bucketOf t i) b)
-            (λ e. let same = eqb-true (bucketOf t i) b e in
+            (λ l. by-test (eqb (sysvBucketOf t i) b)
+            (λ e. let same = eqb-true (sysvBucketOf t i) b e in
             rw (l, e) (subst (λ c. times i (numbers t c) ≡ 1) same (met i (leb-true low i l) hi)))
-            (λ e. rw (l, e) (elsewhere b i hb (eqb-false (bucketOf t i) b e))))
+            (λ e. rw (l, e) (elsewhere b i hb (eqb-false (sysvBucketOf t i) b e))))
             (λ l. rw l (times-none i (numbers t b)
             (all-map (λ x g x-is-i. true≢false (sym (le-leb low x (may-facts b x g .0)) ∙ ap (leb low) x-is-i ∙ l))
             (numbers t b) (whole-at b hb .goods))))
@@ -225,7 +227,7 @@ module _ (t : Table) (low : ℕ) where
                 let range = times-all (λ y. (1 ≤ y) × (y < 1 + (t .chainCount - 1))) x (numbers t b)
                 (chain-range (t .chainCount) (t .chain) (t .bucket b) (numbers t b) (p .path)) more in
                 let below : x < t .count = omega (arith, range .1) in
-                let both = right-both (leb low x) (eqb (bucketOf t x) b) (times x (numbers t b)) _ more
+                let both = right-both (leb low x) (eqb (sysvBucketOf t x) b) (times x (numbers t b)) _ more
                 (p .often x (range .0) below) in
                 rw (both .0, lt-ltb x (t .count) below, both .1));
           }
@@ -239,14 +241,14 @@ module _ (t : Table) (low : ℕ) where
           ∙ sum-ones (λ i. times i (all t)) low (t .count - low)
           (λ i lo hi. let one-at-least = s .low-low in
           own all-whole i
-          ∙ placed t low h (bucketOf t i) (mod-lt (hashOf (t .name) i) (s .buckets)) .often i (omega arith) (omega arith)
-          ∙ (rw (le-leb low i lo, eq-eqb (bucketOf t i) (bucketOf t i) refl)))
+          ∙ placed t low h (sysvBucketOf t i) (mod-lt (sysvHashAt (t .name) i) (s .buckets)) .often i (omega arith) (omega arith)
+          ∙ (rw (le-leb low i lo, eq-eqb (sysvBucketOf t i) (sysvBucketOf t i) refl)))
 
       back : allSpent (t .chain) (t .bucket) may (t .bucketCount) (t .count - low) ≡ true
       back = rw (follow-all (from 0 (t .bucketCount)) (t .count - low) 0 all-whole (omega (arith, steps-are)))
 
-pub counted : (t : Table) (low : ℕ) → t1 t low ≡ true
-    → allSpent (t .chain) (t .bucket) (mayStand (bucketOf t) low (t .count)) (t .bucketCount) (t .count - low) ≡ t3 t low
+pub counted : (t : SysvTable) (low : ℕ) → t1 (t .bucketCount) (t .chainCount) (t .count) low ≡ true
+    → allSpent (t .chain) (t .bucket) (mayStand (sysvBucketOf t) low (t .count)) (t .bucketCount) (t .count - low) ≡ t3 t low
 counted t low h =
     test-ext (allSpent (t .chain) (t .bucket) (may t low) (t .bucketCount) (t .count - low)) (t3 t low)
     (there t low (shape t low h)) (back t low (shape t low h))

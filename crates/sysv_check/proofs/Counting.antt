@@ -8,16 +8,16 @@
 --     all-ones                         k summands of at most 1 that add up to k are all 1
 -- Assumes nothing.
 use mathlib.Core.Path.{_≡_, refl, sym, ap, _∙_, subst}
-use mathlib.Core.Bool.{Bool, true}
-use mathlib.Core.Logic.{_⊎_, ⊎-elim}
+use mathlib.Core.Bool.{Bool, true, cond}
+use mathlib.Core.Logic.{⊎-elim}
 use mathlib.Core.List.{List, [], _∷_, _++_}
-use Prim.Native.Nat.{ℕ, zero, suc, _+_, _-_, _≤_, _<_}
+use Prim.Native.Nat.{ℕ, zero, suc, _+_, _≤_, _<_}
 use native.Mathlib.Omega.{arith}
 use native.Mathlib.Nat.{le-refl, eq-or-lt-of-le}
 use lib.Dec.{eqb}
 use lib.ListN.{length}
 use borrow.Author.Tests.{eqb-true, eq-eqb, ne-eqb}
-use Rattle.sysv_check.specs.Count.{every, one, times}
+use Rattle.sysv_check.specs.Count.{every, times}
 use Rattle.lookup.proofs.Picking.{All, by-test, and-left, and-right}
 
 pub every-all : (p : ℕ → Bool) (xs : List ℕ) → every p xs ≡ true → All (λ x. p x ≡ true) xs
@@ -89,6 +89,10 @@ sum-single f a (suc k) c lo hi others =
     (λ more. let r = sum-single f (suc a) k c more (omega arith) (λ i lo' hi' ne. others i (omega arith) (omega arith) ne) in
     let here = others a (omega arith) (omega arith) (λ z. omega arith) in omega arith)
     (eq-or-lt-of-le lo)
+
+-- 1 for a number itself, 0 for every other
+abbrev one : ℕ → ℕ → ℕ
+one x j = cond (eqb x j) 1 0
 
 sum-one : (x a k : ℕ) → a ≤ x → x < a + k → sum (one x) a k ≡ 1
 sum-one x a k lo hi =

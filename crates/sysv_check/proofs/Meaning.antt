@@ -12,19 +12,20 @@ use lib.Dec.{leb, eqb}
 use borrow.Author.Tests.{leb-true, leb-false, lt-leb, le-leb, eqb-true, eqb-false, eq-eqb, ne-eqb}
 use Rattle.lookup.specs.Pick.{from}
 use Rattle.lookup.proofs.Picking.{all-from, by-test}
-use Rattle.sysv.specs.Table.{Table, numbers}
+use Rattle.sysv.specs.Table.{SysvTable, numbers}
 use Rattle.sysv_check.specs.Count.{times}
-use Rattle.sysv_check.specs.Rules.{bucketOf, Chain, right, t3, t3At}
+use Rattle.sysv_check.specs.Rules.{sysvBucketOf, right, t3, t3At}
+use Rattle.sysv_check.specs.Accepted.{Chain}
 use Rattle.sysv_check.proofs.Counting.{all-every}
 use Rattle.sysv_check.proofs.Chained.{chain-whole}
 use Rattle.sysv_check.proofs.Ruled.{placed}
 
-module _ (t : Table) (low : ℕ) where
+module _ (t : SysvTable) (low : ℕ) where
   pub record Holds (b : ℕ) : Type 0 where
     pub list : List ℕ
     pub comes-to-zero : Chain (t .chainCount) (t .chain) (t .bucket b) list
-    pub once : (i : ℕ) → low ≤ i → i < t .count → bucketOf t i ≡ b → times i list ≡ 1
-    pub no-other : (i : ℕ) → low ≤ i → i < t .count → ¬ (bucketOf t i ≡ b) → times i list ≡ 0
+    pub once : (i : ℕ) → low ≤ i → i < t .count → sysvBucketOf t i ≡ b → times i list ≡ 1
+    pub no-other : (i : ℕ) → low ≤ i → i < t .count → ¬ (sysvBucketOf t i ≡ b) → times i list ≡ 0
     pub none-lower : (i : ℕ) → 1 ≤ i → i < low → times i list ≡ 0
 
   pub t3-means : 1 ≤ low → low ≤ t .count → t3 t low ≡ true → (b : ℕ) → b < t .bucketCount → Holds b
@@ -33,18 +34,18 @@ module _ (t : Table) (low : ℕ) where
       record {
         list = numbers t b;
         comes-to-zero = p .path;
-        once = λ i lo hi e. p .often i (omega arith) hi ∙ (rw (le-leb low i lo, eq-eqb (bucketOf t i) b e));
-        no-other = λ i lo hi ne. p .often i (omega arith) hi ∙ (rw (le-leb low i lo, ne-eqb (bucketOf t i) b ne));
+        once = λ i lo hi e. p .often i (omega arith) hi ∙ (rw (le-leb low i lo, eq-eqb (sysvBucketOf t i) b e));
+        no-other = λ i lo hi ne. p .often i (omega arith) hi ∙ (rw (le-leb low i lo, ne-eqb (sysvBucketOf t i) b ne));
         none-lower = λ i lo hi. p .often i lo (omega arith) ∙ (rw (lt-leb low i hi));
       }
 
-  right-is : (xs : List ℕ) (b i : ℕ) → (low ≤ i → bucketOf t i ≡ b → times i xs ≡ 1)
-      → (low ≤ i → ¬ (bucketOf t i ≡ b) → times i xs ≡ 0) → (i < low → times i xs ≡ 0) → times i xs ≡ right t low b i
+  right-is : (xs : List ℕ) (b i : ℕ) → (low ≤ i → sysvBucketOf t i ≡ b → times i xs ≡ 1)
+      → (low ≤ i → ¬ (sysvBucketOf t i ≡ b) → times i xs ≡ 0) → (i < low → times i xs ≡ 0) → times i xs ≡ right t low b i
   right-is xs b i once other lower =
       by-test (leb low i)
-      (λ l. by-test (eqb (bucketOf t i) b)
-      (λ e. rw (l, e) (once (leb-true low i l) (eqb-true (bucketOf t i) b e)))
-      (λ e. rw (l, e) (other (leb-true low i l) (eqb-false (bucketOf t i) b e))))
+      (λ l. by-test (eqb (sysvBucketOf t i) b)
+      (λ e. rw (l, e) (once (leb-true low i l) (eqb-true (sysvBucketOf t i) b e)))
+      (λ e. rw (l, e) (other (leb-true low i l) (eqb-false (sysvBucketOf t i) b e))))
       (λ l. rw l (lower (leb-false low i l)))
 
   pub means-t3 : ((b : ℕ) → b < t .bucketCount → Holds b) → t3 t low ≡ true

@@ -12,21 +12,22 @@ use lib.Dec.{leb, eqb}
 use borrow.Author.Tests.{leb-true, eqb-true}
 use Rattle.lookup.specs.Pick.{from, isNone}
 use Rattle.lookup.proofs.Picking.{from-all, and-left, and-right}
-use Rattle.sysv.specs.Table.{Table, numbers}
+use Rattle.sysv.specs.Table.{SysvTable, numbers}
 use Rattle.sysv_check.specs.declared.table.Checked.the-variants.{Accepted, Broken}
 use Rattle.sysv_check.specs.Count.{every, times}
-use Rattle.sysv_check.specs.Rules.{ends, Chain, right, t1, t2, t3, t3At, check}
+use Rattle.sysv_check.specs.Rules.{ends, right, t1, t2, t3, t3At, sysvTableCheck}
+use Rattle.sysv_check.specs.Accepted.{Chain}
 use Rattle.sysv_check.proofs.Counting.{every-all}
 use Rattle.sysv_check.proofs.Chained.{ends-chain}
 
-module _ (t : Table) (low : ℕ) where
+module _ (t : SysvTable) (low : ℕ) where
   pub record Shape : Type 0 where
     pub low-low : 1 ≤ low
     pub low-high : low ≤ t .count
     pub chains : t .chainCount ≡ t .count
     pub buckets : 1 ≤ t .bucketCount
 
-  pub shape : t1 t low ≡ true → Shape
+  pub shape : t1 (t .bucketCount) (t .chainCount) (t .count) low ≡ true → Shape
   shape h =
       let rest = eqb (t .chainCount) (t .count) && leb 1 (t .bucketCount) in
       let h0 = and-right (leb 1 low) (leb low (t .count) && rest) h in
@@ -76,9 +77,9 @@ none-broken true true false h = (cc, cc, cc)
 none-broken true false c h = (cc, cc, cc)
 none-broken false b c h = (cc, cc, cc)
 
-pub rules : (t : Table) (low : ℕ) → check t low ≡ Accepted → Ruled t low
+pub rules : (t : SysvTable) (low : ℕ) → sysvTableCheck t low ≡ Accepted → Ruled t low
 rules t low h =
-    let n = none-broken (t1 t low) (t2 t low) (t3 t low) h in
+    let n = none-broken (t1 (t .bucketCount) (t .chainCount) (t .count) low) (t2 t low) (t3 t low) h in
     record {
       shaped = shape t low (n .0);
       readable = λ i lo hi.

@@ -11,15 +11,15 @@ use native.Mathlib.Nat.{mod-lt}
 use lib.Dec.{leb, eqb}
 use borrow.Author.Tests.{leb-true, eq-eqb, le-leb}
 use Rattle.name_hash.specs.Hash.{sysvHash}
-use Rattle.sysv.specs.Table.{Table, numbers}
+use Rattle.sysv.specs.Table.{SysvTable, numbers}
 use Rattle.sysv_check.specs.Count.{times}
-use Rattle.sysv_check_chains.specs.Pass.{hashOf}
-use Rattle.sysv_check.specs.Rules.{bucketOf}
+use Rattle.sysv_check_chains.specs.Hash.{sysvHashAt}
+use Rattle.sysv_check.specs.Rules.{sysvBucketOf}
 use Rattle.sysv_check.proofs.Counting.{times-all}
 use Rattle.sysv_check.proofs.Chained.{chain-range}
 use Rattle.sysv_check.proofs.Ruled.{Ruled, right-both}
 
-module _ (t : Table) (low : ℕ) (r : Ruled t low) where
+module _ (t : SysvTable) (low : ℕ) (r : Ruled t low) where
   pub on-chain : (b : ℕ) → b < t .bucketCount → (i : ℕ) → 0 < times i (numbers t b) → (low ≤ i) × (i < t .count)
   on-chain b hb i more =
       let here = r .each b hb in
@@ -29,13 +29,13 @@ module _ (t : Table) (low : ℕ) (r : Ruled t low) where
       let one-at-least = r .shaped .low-low in
       let high = r .shaped .low-high in
       let below : i < t .count = omega (arith, range .1) in (
-        leb-true low i (right-both (leb low i) (eqb (bucketOf t i) b) (times i (numbers t b)) _ more
+        leb-true low i (right-both (leb low i) (eqb (sysvBucketOf t i) b) (times i (numbers t b)) _ more
             (here .often i (range .0) below) .0),
         below,
       )
 
-  hashed : (name : List ℕ) (i : ℕ) → t .name i ≡ some name → hashOf (t .name) i ≡ sysvHash name
-  unfolding hashOf
+  hashed : (name : List ℕ) (i : ℕ) → t .name i ≡ some name → sysvHashAt (t .name) i ≡ sysvHash name
+  unfolding sysvHashAt
   hashed name i named = ap (λ (o : Option (List ℕ)). sysvHash (Option·getD o [])) named
 
   pub stands : (name : List ℕ) (i : ℕ) → low ≤ i → i < t .count → t .name i ≡ some name
@@ -44,4 +44,4 @@ module _ (t : Table) (low : ℕ) (r : Ruled t low) where
       let one-at-least = r .shaped .low-low in
       let home = sysvHash name % t .bucketCount in
       r .each home (mod-lt (sysvHash name) (r .shaped .buckets)) .often i (omega arith) hi
-      ∙ (rw (le-leb low i lo, eq-eqb (bucketOf t i) home (ap (λ x. x % t .bucketCount) (hashed name i named))))
+      ∙ (rw (le-leb low i lo, eq-eqb (sysvBucketOf t i) home (ap (λ x. x % t .bucketCount) (hashed name i named))))

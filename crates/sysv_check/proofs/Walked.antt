@@ -14,7 +14,7 @@ use Rattle.symbol.specs.Table.{symbolIndex}
 use Rattle.symbol.specs.declared.table.SymbolIndex.{SymbolIndex}
 use Rattle.lookup.specs.declared.Answer.the-variants.{Found, Missing}
 use Rattle.lookup.specs.Pick.{firstOf, upTo}
-use Rattle.lookup.specs.Wanted.{answerOf, walk}
+use Rattle.lookup.specs.Wanted.{answerAfter, walk}
 use Rattle.lookup.proofs.Picking.{All, by-test, none-firstOf, firstOf-none}
 
 found-same : (i j m n : ℕ) → Found (symbolIndex i) m ≡ Found (symbolIndex j) n → (i ≡ j) × (m ≡ n)
@@ -58,7 +58,7 @@ module _ (p : ℕ → Bool) where
       → (s : Split xs i) × (n ≡ suc (length (s .before)))
   walk-found xs i n h = by (firstOf p xs) refl h
     where
-      by : (o : Option ℕ) → firstOf p xs ≡ o → answerOf o (length (upTo p xs)) ≡ Found (symbolIndex i) n
+      by : (o : Option ℕ) → firstOf p xs ≡ o → answerAfter o (length (upTo p xs)) ≡ Found (symbolIndex i) n
           → (s : Split xs i) × (n ≡ suc (length (s .before)))
       by none e g = missing-found (length (upTo p xs)) n (symbolIndex i) g
       by (some j) e g =
@@ -82,7 +82,7 @@ module _ (p : ℕ → Bool) where
   pub walk-none : (xs : List ℕ) (n : ℕ) → walk p xs ≡ Missing n → All (λ j. p j ≡ false) xs
   walk-none xs n h = by (firstOf p xs) refl h
     where
-      by : (o : Option ℕ) → firstOf p xs ≡ o → answerOf o (length (upTo p xs)) ≡ Missing n → All (λ j. p j ≡ false) xs
+      by : (o : Option ℕ) → firstOf p xs ≡ o → answerAfter o (length (upTo p xs)) ≡ Missing n → All (λ j. p j ≡ false) xs
       by none e g = none-firstOf p xs e
       by (some j) e g = missing-found n (length (upTo p xs)) (symbolIndex j) (sym g)
 

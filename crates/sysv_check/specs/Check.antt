@@ -3,18 +3,16 @@
 use Prim.Native.Nat.{ℕ}
 use mathlib.Core.Bool.{cond}
 use mathlib.Core.List.{List, [], _∷_}
-use mathlib.Core.Option.{Option, some, none}
 use Rattle.endian.specs.declared.kinds.Class.{Class}
 use Rattle.endian.specs.declared.kinds.Order.{Order}
-use Rattle.endian.specs.declared.refusals.Refusal.{Refusal}
 use Rattle.endian.specs.Refusals.{anyLong, tooLong, unlessRefused}
-use Rattle.sysv_header.specs.Header.{fault}
-use Rattle.sysv.specs.Layout.{tableOf}
+use Rattle.sysv_header.specs.Header.{sysvFault}
+use Rattle.sysv.specs.Layout.{sysvTableOf}
 use Rattle.sysv_check.specs.declared.table.Checked.{Checked}
 use Rattle.sysv_check.specs.declared.table.Checked.the-variants.{Refused}
-use Rattle.sysv_check.specs.Rules.{firstGlobal, check}
+use Rattle.sysv_check.specs.Rules.{firstGlobal, sysvTableCheck}
 
 unfoldable pub sysvCheck : Class → Order → (table symbols strings : List ℕ) → Checked
 sysvCheck class order table symbols strings =
     cond (anyLong (table ∷ symbols ∷ strings ∷ [])) (Refused tooLong)
-    (unlessRefused Refused (fault order table) (check (tableOf order table class symbols strings) firstGlobal))
+    (unlessRefused Refused (sysvFault order table) (sysvTableCheck (sysvTableOf order table class symbols strings) firstGlobal))

@@ -1,6 +1,5 @@
 -- Counting in lists of numbers.
 --     every    whether all elements pass a test
---     one      1 for a number itself, 0 for every other
 --     times    how often a number stands in a list
 -- Assumes nothing.
 use Prim.Native.Nat.{ℕ, _+_}
@@ -12,9 +11,6 @@ abbrev pub every : (ℕ → Bool) → List ℕ → Bool
 every p [] = true
 every p (x ∷ xs) = p x && every p xs
 
-abbrev pub one : ℕ → ℕ → ℕ
-one x j = cond (eqb x j) 1 0
-
 abbrev pub times : ℕ → List ℕ → ℕ
 times j [] = 0
-times j (x ∷ xs) = one x j + times j xs
+times j (x ∷ xs) = cond (eqb x j) 1 0 + times j xs

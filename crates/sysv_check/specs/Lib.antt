@@ -1,4 +1,4 @@
+pub mod Accepted
 pub mod Check
 pub mod Count
-pub mod Pass
 pub mod Rules

@@ -6,19 +6,17 @@ use endian::refusals::Refusal;
 use endian::refusals::TOO_LONG;
 use readable_names::lowest_unreadable;
 use symbol::table::SymbolCount;
+use symbol::table::SymbolIndex;
 use symbol::table::symbol_count;
 use sysv_check_chains::chains::chains_hold;
 use sysv_header::header::Header;
 use sysv_header::header::HeaderAt;
 use sysv_header::header::header_of;
 ghost use mathlib.Core.Path.{_≡_};
-ghost use Prim.Native.Nat.{_/_};
-ghost use lib.ListN.{length};
-ghost use Rattle.symbol.specs.Table.{symbolSize};
-ghost use Rattle.sysv_header.specs.Header.{headerOf};
-ghost use Rattle.sysv.specs.Layout.{tableOf};
-ghost use Rattle.sysv_check.specs.Rules.{check as checkOf};
-ghost use Rattle.sysv_check.specs.Pass.{shaped};
+ghost use Rattle.symbol.specs.Table.{symbolsIn};
+ghost use Rattle.sysv_header.specs.Reading.{headerOf};
+ghost use Rattle.sysv.specs.Layout.{sysvTableOf};
+ghost use Rattle.sysv_check.specs.Rules.{t1, sysvTableCheck};
 ghost use Rattle.sysv_check.specs.Check.{sysvCheck};
 
 // The first symbol that must be found.
@@ -33,7 +31,7 @@ pub enum Checked {
 
 // T1.
 fn has_shape(buckets: u32, chains: u32, count: u32, low: u32) -> bool
-    ensures { λ r. ⌜ r ≡ shaped buckets chains count low ⌝ }
+    ensures { λ r. ⌜ r ≡ t1 buckets chains count low ⌝ }
 {
     if low < 1 {
         return false;
@@ -58,15 +56,16 @@ fn check_rules(
     count: u32,
     low: u32,
 ) -> Checked
-    requires { ⌜ (header ≡ headerOf order (now table)) × (count ≡ length (now symbols) / symbolSize class) ⌝ }
+    requires { ⌜ (header ≡ headerOf order (now table)) × (count ≡ symbolsIn class (now symbols)) ⌝ }
     ensures { λ r. ⌜ r
-        ≡ checkOf (tableOf order (now (table .entry)) class (now (symbols .entry)) (now (strings .entry))) low ⌝ }
+        ≡ sysvTableCheck (sysvTableOf order (now (table .entry)) class (now (symbols .entry)) (now (strings .entry))) low ⌝ }
 {
     let buckets = header.bucket_count;
     if !has_shape(buckets, header.chain_count, count, low) {
         return Checked::Broken(1);
     }
-    if lowest_unreadable(class, order, symbols, strings, low, count) != count {
+    let first = SymbolIndex(low);
+    if lowest_unreadable(class, order, symbols, strings, first, count).0 != count {
         return Checked::Broken(2);
     }
     if !chains_hold(
@@ -77,7 +76,7 @@ fn check_rules(
         strings,
         buckets,
         count,
-        low,
+        first,
         count - low,
     ) {
         return Checked::Broken(3);

@@ -3,13 +3,12 @@
 --     part-hash, part-refused    its hash is computed
 --     hash-read, hash-unread     the hash of a symbol's name, by the string that was read or refused
 -- Assumes nothing.
-use Prim.Native.Nat.{ℕ, _+_, _-_, _≤_, _<_}
-use mathlib.Core.Path.{_≡_, refl, sym, ap, _∙_}
+use Prim.Native.Nat.{ℕ, _+_, _-_, _≤_}
+use mathlib.Core.Path.{_≡_, sym, ap, _∙_}
 use mathlib.Core.Bool.{Bool, true, false, cond}
 use mathlib.Core.List.{List, [], _∷_}
 use mathlib.Core.Option.{Option·getD}
 use native.Mathlib.Omega.{arith}
-use lib.Dec.{ltb}
 use lib.ListN.{length, take, drop, length-take, length-drop}
 use borrow.Author.Tests.{le-ltb}
 use Rattle.endian.specs.declared.kinds.Class.{Class}
@@ -23,9 +22,9 @@ use Rattle.symbol.specs.declared.table.SymbolAt.{SymbolAt}
 use Rattle.symbol.specs.declared.table.SymbolAt.the-variants.{At as Symbol·At, Refused as Symbol·Refused}
 use Rattle.symbol.specs.Table.{symbolAt, symbolName, nameIn, symbolIndex}
 use Rattle.name_hash.specs.declared.NameHash.the-variants.{Hash, Refused as Hash·Refused}
-use Rattle.name_hash.specs.Hash.{sysvHash, nameHash as hashAnswer}
+use Rattle.name_hash.specs.Hash.{sysvHash, nameHash}
 use Rattle.lookup.specs.Wanted.{bytesOf, nameOf}
-use Rattle.sysv_check_chains.specs.Pass.{hashOf}
+use Rattle.sysv_check_chains.specs.Hash.{sysvHashAt}
 
 -- ---- a string that was read
 
@@ -47,15 +46,15 @@ module _ (strings : List ℕ) (start len : ℕ) (inside : Inside strings start l
       let left = length-drop start strings in
       omega (arith, inside .0, inside .1)
 
-  hashed : hashAnswer sysvHash part ≡ Hash (sysvHash (take len (drop start strings)))
+  hashed : nameHash sysvHash part ≡ Hash (sysvHash (take len (drop start strings)))
   hashed =
       let e : start + len - start ≡ len = omega arith in
       rw (le-ltb limit (length part) part-fits) (ap (λ (k : ℕ). Hash (sysvHash (take k (drop start strings)))) e)
 
-  pub part-hash : (h : ℕ) → hashAnswer sysvHash part ≡ Hash h → h ≡ sysvHash (take len (drop start strings))
+  pub part-hash : (h : ℕ) → nameHash sysvHash part ≡ Hash h → h ≡ sysvHash (take len (drop start strings))
   part-hash h e = let z : Hash h ≡ Hash (sysvHash (take len (drop start strings))) = sym e ∙ hashed in cc
 
-  pub part-refused : {A : Type 0} (r : Refusal) → hashAnswer sysvHash part ≡ Hash·Refused r → A
+  pub part-refused : {A : Type 0} (r : Refusal) → nameHash sysvHash part ≡ Hash·Refused r → A
   part-refused r e =
       let z : Hash·Refused r ≡ Hash (sysvHash (take len (drop start strings))) = sym e ∙ hashed in
       let n : _≡_ {A = ℕ} 0 1 = cc in
@@ -73,11 +72,11 @@ module _ (class : Class) (order : Order) (symbols strings : List ℕ) (i : ℕ) 
             let inside = string-inside strings (symbol .name) start len e in
             (omega arith, inside .1)
 
-    pub hash-read : hashOf (nameOf class order symbols strings) i ≡ sysvHash (take len (drop start strings))
-    unfolding hashOf nameOf
+    pub hash-read : sysvHashAt (nameOf class order symbols strings) i ≡ sysvHash (take len (drop start strings))
+    unfolding sysvHashAt nameOf
     hash-read = ap (λ (s : StringAt). sysvHash (Option·getD (bytesOf strings s) [])) read
 
   pub hash-unread : (r : Refusal) → symbolName class order symbols strings (symbolIndex i) ≡ Refused r
-      → hashOf (nameOf class order symbols strings) i ≡ 0
-  unfolding hashOf nameOf sysvHash
+      → sysvHashAt (nameOf class order symbols strings) i ≡ 0
+  unfolding sysvHashAt nameOf sysvHash
   hash-unread r refused = ap (λ (s : StringAt). sysvHash (Option·getD (bytesOf strings s) [])) refused

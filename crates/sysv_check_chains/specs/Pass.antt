@@ -1,6 +1,5 @@
--- What the walk along every chain of a SysV table computes, with so many steps. That this is T3 is proved in `sysv_check`
--- (`proofs/Counted`).
---     hashOf                  the hash of a symbol
+-- Need not be believed: what the walk along every chain of a SysV table computes, with so many steps. That it is T3 is proved
+-- in `sysv_check` (`proofs/Counted`).
 --     inRange                 whether a number may stand on a chain at all
 --     mayStand                whether it may stand on the chain of a bucket
 --     stepsOf, ended          what is left of the steps after a chain, or that something is wrong with it; whether nothing is
@@ -12,16 +11,11 @@
 use Prim.Native.Nat.{ℕ, zero, suc}
 use mathlib.Core.Bool.{Bool, true, false, cond, _&&_}
 use mathlib.Core.List.{List, [], _∷_}
-use mathlib.Core.Option.{Option, some, none, Option·getD}
+use mathlib.Core.Option.{Option, some, none}
 use lib.Dec.{leb, ltb, eqb}
-use Rattle.name_hash.specs.Hash.{sysvHash}
 use Rattle.lookup.specs.Pick.{from}
 use Rattle.sysv_check_chains.specs.declared.chains.Steps.{Steps}
 use Rattle.sysv_check_chains.specs.declared.chains.Steps.the-variants.{Left, Wrong}
-
--- of the names by number; of one that cannot be read, that of the empty name
-unfoldable pub hashOf : (name : ℕ → Option (List ℕ)) → ℕ → ℕ
-hashOf name i = sysvHash (Option·getD (name i) [])
 
 abbrev pub inRange : (low count i : ℕ) → Bool
 inRange low count i = leb low i && ltb i count

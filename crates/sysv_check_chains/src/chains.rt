@@ -8,8 +8,8 @@ ghost use mathlib.Core.Path.{_≡_};
 ghost use Prim.Native.Nat.{_+_, _*_, _%_, _^_, _<_};
 ghost use Rattle.endian.specs.Word.{wordAt};
 ghost use Rattle.lookup.specs.Wanted.{nameOf};
-ghost use Rattle.sysv_check_chains.specs.Pass.{hashOf, inRange, mayStand, stepsOf, ended, allSpent};
-ghost use Rattle.sysv_check_chains.specs.Pass.{follow as followed};
+ghost use Rattle.sysv_check_chains.specs.Pass.{inRange, mayStand, stepsOf, ended, allSpent, follow as followed};
+ghost use Rattle.sysv_check_chains.specs.Hash.{sysvHashAt};
 
 // What is left of the steps after a chain, or that something is wrong with it.
 pub enum Steps {
@@ -31,7 +31,7 @@ fn may_stand(
 ) -> bool
     requires { ⌜ 0 < buckets ⌝ }
     ensures { λ r. ⌜ r
-        ≡ mayStand (λ j. hashOf (nameOf class order (now (symbols .entry)) (now (strings .entry))) j % buckets) low count b i ⌝ }
+        ≡ mayStand (λ j. sysvHashAt (nameOf class order (now (symbols .entry)) (now (strings .entry))) j % buckets) low count b i ⌝ }
 {
     if i < low {
         return false;
@@ -96,7 +96,7 @@ fn follow(
     requires { ⌜ (0 < buckets) × («chains_at» < 2 ^ 40) ⌝ }
     ensures { λ r. ⌜ r
         ≡ stepsOf (followed (λ j. wordAt order 4 (now (table .entry)) («chains_at» + j * 4))
-        (mayStand (λ j. hashOf (nameOf class order (now (symbols .entry)) (now (strings .entry))) j % buckets) low count b)
+        (mayStand (λ j. sysvHashAt (nameOf class order (now (symbols .entry)) (now (strings .entry))) j % buckets) low count b)
         left start) ⌝ }
 {
     let mut number: u32 = start;
@@ -126,8 +126,8 @@ fn follow(
     }
 }
 
-// Whether all chains together take exactly so many steps, and only numbers from low on and below the
-// count stand on them, each on the chain of its hash.
+// Whether all chains together take exactly so many steps, and only numbers from `first` on and below
+// the count stand on them, each on the chain of its hash.
 pub fn chains_hold(
     class: Class,
     order: Order,
@@ -136,15 +136,16 @@ pub fn chains_hold(
     strings: &[u8],
     buckets: u32,
     count: u32,
-    low: u32,
+    first: SymbolIndex,
     steps: u32,
 ) -> bool
     ensures { λ r. ⌜ r
         ≡ allSpent (λ j. wordAt order 4 (now (table .entry)) (8 + buckets * 4 + j * 4))
         (λ b. wordAt order 4 (now (table .entry)) (8 + b * 4))
-        (mayStand (λ j. hashOf (nameOf class order (now (symbols .entry)) (now (strings .entry))) j % buckets) low count)
+        (mayStand (λ j. sysvHashAt (nameOf class order (now (symbols .entry)) (now (strings .entry))) j % buckets) (first .0) count)
         buckets steps ⌝ }
 {
+    let low = first.0;
     let chains_at = 8 + buckets as usize * 4;
     let mut left: u32 = steps;
     let mut b: u32 = 0;

@@ -12,7 +12,7 @@ ghost use lib.ListN.{length, take, drop};
 ghost use Rattle.endian.specs.Refusals.{limit};
 ghost use Rattle.name_hash.specs.Hash.{sysvHash};
 ghost use Rattle.lookup.specs.Wanted.{nameOf};
-ghost use Rattle.sysv_check_chains.specs.Pass.{hashOf};
+ghost use Rattle.sysv_check_chains.specs.Hash.{sysvHashAt};
 
 // The hash of a part of the strings.
 fn part_hash(strings: &[u8], start: usize, len: usize) -> u32
@@ -34,7 +34,7 @@ pub(crate) fn symbol_hash(
     strings: &[u8],
     symbol: SymbolIndex,
 ) -> u32
-    ensures { λ r. ⌜ r ≡ hashOf (nameOf class order (now (symbols .entry)) (now (strings .entry))) (symbol .0) ⌝ }
+    ensures { λ r. ⌜ r ≡ sysvHashAt (nameOf class order (now (symbols .entry)) (now (strings .entry))) (symbol .0) ⌝ }
 {
     match symbol_name(class, order, symbols, strings, symbol) {
         StringAt::At { start, len } => part_hash(strings, start, len),

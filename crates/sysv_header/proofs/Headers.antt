@@ -11,11 +11,12 @@ use lib.Dec.{ltb}
 use lib.ListN.{length}
 use Rattle.endian.specs.declared.kinds.Order.{Order}
 use Rattle.endian.specs.declared.refusals.Refusal.{Refusal}
-use Rattle.endian.specs.Refusals.{limit, tooLong}
+use Rattle.endian.specs.Refusals.{limit, tooLong, unlessRefused}
 use Rattle.sysv_header.specs.declared.header.Header.{Header}
 use Rattle.sysv_header.specs.declared.header.HeaderAt.{HeaderAt}
 use Rattle.sysv_header.specs.declared.length.ChainCount.{ChainCount}
-use Rattle.sysv_header.specs.Header.{fault, headerOf, headerAt, headerUnless, chainCountOf, sysvLength, lengthAnswer}
+use Rattle.sysv_header.specs.Header.{sysvFault, chainCountOf, sysvLength}
+use Rattle.sysv_header.specs.Reading.{headerOf, headerAt}
 
 abbrev pub countFrom : HeaderAt → ChainCount
 countFrom (HeaderAt.At header) = ChainCount.Chains (header .«chain_count»)
@@ -24,22 +25,22 @@ countFrom (HeaderAt.Refused r) = ChainCount.Refused r
 module _ (order : Order) (table : List ℕ) where
   pub length-from : sysvLength order table ≡ countFrom (headerAt order table)
   unfolding sysvLength headerAt
-  length-from = by (ltb limit (length table)) (fault order table)
+  length-from = by (ltb limit (length table)) (sysvFault order table)
     where
       by : (t : Bool) (o : Option Refusal)
-          → cond t (ChainCount.Refused tooLong) (lengthAnswer o (chainCountOf order table))
-          ≡ countFrom (cond t (HeaderAt.Refused tooLong) (headerUnless o (headerOf order table)))
+          → cond t (ChainCount.Refused tooLong) (unlessRefused ChainCount.Refused o (ChainCount.Chains (chainCountOf order table)))
+          ≡ countFrom (cond t (HeaderAt.Refused tooLong) (unlessRefused HeaderAt.Refused o (HeaderAt.At (headerOf order table))))
       by true o = refl
       by false none = refl
       by false (some r) = refl
 
   pub header-read : (header : Header) → headerAt order table ≡ HeaderAt.At header
-      → (ltb limit (length table) ≡ false) × (fault order table ≡ none) × (header ≡ headerOf order table)
+      → (ltb limit (length table) ≡ false) × (sysvFault order table ≡ none) × (header ≡ headerOf order table)
   unfolding headerAt
-  header-read header h = by (ltb limit (length table)) (fault order table) h
+  header-read header h = by (ltb limit (length table)) (sysvFault order table) h
     where
       by : (t : Bool) (o : Option Refusal)
-          → cond t (HeaderAt.Refused tooLong) (headerUnless o (headerOf order table)) ≡ HeaderAt.At header
+          → cond t (HeaderAt.Refused tooLong) (unlessRefused HeaderAt.Refused o (HeaderAt.At (headerOf order table))) ≡ HeaderAt.At header
           → (t ≡ false) × (o ≡ none) × (header ≡ headerOf order table)
       by true o e = (cc, cc, cc)
       by false none e = (refl, refl, cc)

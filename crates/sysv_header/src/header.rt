@@ -8,7 +8,7 @@ use endian::refusals::Refusal;
 use endian::refusals::TOO_LONG;
 use word::u32_at;
 ghost use mathlib.Core.Path.{_≡_};
-ghost use Rattle.sysv_header.specs.Header.{headerAt};
+ghost use Rattle.sysv_header.specs.Reading.{headerAt};
 
 pub struct Header {
     pub bucket_count: u32,

@@ -1,5 +1,5 @@
 -- `definitions::definitions_of` meets its contract: the parts in order, then the count. Assumes nothing.
-use Prim.Native.Nat.{ℕ, _/_}
+use Prim.Native.Nat.{ℕ}
 use mathlib.Core.Path.{_≡_, sym, ap, _∙_}
 use mathlib.Core.Bool.{cond}
 use mathlib.Core.List.{[], _∷_}
@@ -9,7 +9,7 @@ use borrow.Author.Tests.{lt-ltb, le-ltb}
 use Rattle.definitions.specs.declared.Definitions.the-variants.{Count, Refused}
 use Rattle.endian.specs.Refusals.{limit, anyLong, tooLong}
 use Rattle.symbol.specs.declared.table.SymbolCount.{SymbolCount}
-use Rattle.symbol.specs.Table.{symbolCount, symbolSize}
+use Rattle.symbol.specs.Table.{symbolCount, symbolsIn}
 use Rattle.definitions.specs.Definitions.{definesIn, countIn}
 use Rattle.definitions.proofs.Told.{countBy, count-told}
 use borrow.Author.Needs.{needs}
@@ -48,10 +48,10 @@ module _ (start : tie.Start) where
   told : (counted : SymbolCount) → counted ≡ symbolCount (start .args .class) (start .args .symbols .now)
       → countBy countTo counted
       ≡ cond (anyLong (start .args .symbols .now ∷ [])) (Refused tooLong)
-      (Count (countTo (length (start .args .symbols .now) / symbolSize (start .args .class))))
+      (Count (countTo (symbolsIn (start .args .class) (start .args .symbols .now))))
   told counted e =
       count-told countTo (ltb limit (length (start .args .symbols .now)))
-      (length (start .args .symbols .now) / symbolSize (start .args .class)) counted e
+      (symbolsIn (start .args .class) (start .args .symbols .now)) counted e
 
 returns-4 : tie.Need-returns-4
 returns-4 c =

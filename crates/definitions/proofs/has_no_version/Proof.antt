@@ -1,6 +1,6 @@
 -- `definitions::has_no_version` meets its contract. Each arm is told what `version_of` answered. Assumes nothing.
 use mathlib.Core.Path.{sym, ap, _∙_}
-use Rattle.definitions.specs.Definitions.{noVersion}
+use Rattle.definitions.specs.Definitions.{hasNoVersion}
 use borrow.Author.Needs.{needs}
 use Rattle.definitions.proofs.has_no_version.Statement.{statement}
 use Rattle.definitions.proofs.has_no_version.Tie as tie
@@ -20,10 +20,10 @@ enum-told c = search needs
 returns : tie.Need-returns
 returns c =
     let called = c .before .before .before .before in
-    c .is-special .ensures ∙ ap noVersion (sym (c .before .before .versym .given .1) ∙ called .version-of .ensures)
+    c .is-special .ensures ∙ ap hasNoVersion (sym (c .before .before .versym .given .1) ∙ called .version-of .ensures)
 
 returns-2 : tie.Need-returns-2
-returns-2 c = ap noVersion (sym (c .enum-told .given .1) ∙ c .before .before .version-of .ensures)
+returns-2 c = ap hasNoVersion (sym (c .enum-told .given .1) ∙ c .before .before .version-of .ensures)
 
 pub has-no-version-spec : {M : Type 1} → statement M
 has-no-version-spec =

@@ -4,9 +4,9 @@ use mathlib.Core.Path.{_≡_, sym, ap, _∙_}
 use lib.Dec.{eqb}
 use borrow.Author.Needs.{needs}
 use borrow.Author.Tests.{not-true, not-false}
-use Rattle.gnu_table.specs.Table.{Table, valueOf}
-use Rattle.gnu_rules.specs.Rules.{hashOf, bucketOf}
-use Rattle.gnu_table.specs.Header.{tableWith}
+use Rattle.gnu_table.specs.Table.{GnuTable, valueOf}
+use Rattle.gnu_rules.specs.Rules.{gnuHashAt, gnuBucketOf}
+use Rattle.gnu_table.specs.Layout.{tableWith}
 use Rattle.gnu_check_hashes.specs.Names.{hashIn}
 use Rattle.gnu_check_buckets.specs.Runs.{mayBe}
 use Rattle.gnu_check_buckets.proofs.Straying.{stray-zero, stray-below, stray-past, stray-ruled-out, stray-other, stray-first, stray-before}
@@ -14,7 +14,7 @@ use Rattle.gnu_check_buckets.proofs.is_stray.Statement.{statement}
 use Rattle.gnu_check_buckets.proofs.is_stray.Tie as tie
 
 -- the table of the arguments
-abbrev table-of : tie.Start → Table
+abbrev table-of : tie.Start → GnuTable
 table-of c =
     let a = c .args in
     tableWith (a .class) (a .order) (a .table .now) (a .symbols .now) (a .strings .now) (a .layout) (a .count)
@@ -91,8 +91,8 @@ bucket-of-requires c κs = search needs
 -- the bucket that was computed is the definition's
 bucket-is : (c : tie.After-bucket-of)
     → let k = c .before .before .before .before .before in
-    c .bucket-of .result ≡ bucketOf (table-of (start k)) (v k)
-unfolding hashOf hashIn
+    c .bucket-of .result ≡ gnuBucketOf (table-of (start k)) (v k)
+unfolding gnuHashAt hashIn
 bucket-is c = c .bucket-of .ensures .0
 
 returns-5 : tie.Need-returns-5
@@ -112,8 +112,8 @@ returns-6 c =
     (k .before .if2 .left) (k .if3 .left) (sym (may-is (may .before)) ∙ not-false _ (may .if4 .left))
     (sym (bucket-is (own .before)) ∙ own .if5 .left) (c .if6 .taken))
 
-sub-bucket-of : tie.Need-sub-bucket-of
-sub-bucket-of c = search needs
+sub-result : tie.Need-sub-result
+sub-result c = search needs
 
 bucket-of-requires-2 : tie.Need-bucket-of-requires-2
 bucket-of-requires-2 c κs = search needs
@@ -121,8 +121,8 @@ bucket-of-requires-2 c κs = search needs
 -- and so is that of the symbol before
 before-is : (c : tie.After-bucket-of2)
     → let k = c .before .before .before .before .before .before .before .before .before in
-    c .bucket-of2 .result ≡ bucketOf (table-of (start k)) (v k - 1)
-unfolding hashOf hashIn
+    c .bucket-of2 .result ≡ gnuBucketOf (table-of (start k)) (v k - 1)
+unfolding gnuHashAt hashIn
 before-is c = c .bucket-of2 .ensures .0
 
 returns-7 : tie.Need-returns-7
@@ -149,6 +149,6 @@ is-stray-spec =
     bucket-of-requires
     returns-5
     returns-6
-    sub-bucket-of
+    sub-result
     bucket-of-requires-2
     returns-7)

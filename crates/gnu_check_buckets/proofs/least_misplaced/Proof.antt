@@ -3,8 +3,8 @@
 use Prim.Native.Nat.{_-_}
 use mathlib.Core.Path.{_≡_}
 use borrow.Author.Needs.{needs}
-use Rattle.gnu_rules.specs.Rules.{hashOf, bucketOf}
-use Rattle.gnu_table.specs.Header.{tableWith}
+use Rattle.gnu_rules.specs.Rules.{gnuHashAt, gnuBucketOf}
+use Rattle.gnu_table.specs.Layout.{tableWith}
 use Rattle.gnu_check_hashes.specs.Names.{hashIn}
 use Rattle.gnu_check_buckets.proofs.Turns.{Passing, passing-start, passing-next, passing-end}
 use Rattle.gnu_check_buckets.proofs.least_misplaced.Statement.{statement}
@@ -47,9 +47,9 @@ loop-less c = search needs
 bucket-is : (c : tie.After-bucket-of Inv-loop μ-loop)
     → let a = c .before .before .before .before .before .before .args in
     c .bucket-of .result
-    ≡ bucketOf (tableWith (a .class) (a .order) (a .table .now) (a .symbols .now) (a .strings .now) (a .layout) (a .count))
+    ≡ gnuBucketOf (tableWith (a .class) (a .order) (a .table .now) (a .symbols .now) (a .strings .now) (a .layout) (a .count))
     (c .before .before .loop .i)
-unfolding hashOf hashIn
+unfolding gnuHashAt hashIn
 bucket-is c = c .bucket-of .ensures .0
 
 loop-again : tie.Need-loop-again Inv-loop μ-loop

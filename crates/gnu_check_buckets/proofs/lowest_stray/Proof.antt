@@ -3,7 +3,7 @@
 use Prim.Native.Nat.{_-_}
 use mathlib.Core.Path.{sym, _∙_}
 use borrow.Author.Needs.{needs}
-use Rattle.gnu_table.specs.Header.{tableWith}
+use Rattle.gnu_table.specs.Layout.{tableWith}
 use Rattle.gnu_check_buckets.specs.Runs.{stray}
 use Rattle.lookup.proofs.Searching.{Searching, searching-start, searching-next, searching-here, searching-end}
 use Rattle.gnu_check_buckets.proofs.lowest_stray.Statement.{statement}

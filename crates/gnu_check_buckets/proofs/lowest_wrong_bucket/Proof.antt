@@ -7,9 +7,9 @@ use native.Mathlib.Omega.{arith}
 use borrow.Author.Needs.{needs}
 use borrow.Author.Tests.{eq-eqb, ne-eqb}
 use Rattle.lookup.specs.Pick.{from, firstOf}
-use Rattle.gnu_table.specs.Table.{Table}
+use Rattle.gnu_table.specs.Table.{GnuTable}
 use Rattle.lookup.specs.Search.{firstFrom}
-use Rattle.gnu_table.specs.Header.{tableWith}
+use Rattle.gnu_table.specs.Layout.{tableWith}
 use Rattle.gnu_check_buckets.specs.Runs.{stray, leastMisplaced, wrongBucket}
 use Rattle.lookup.proofs.Searching.{first-le}
 use Rattle.gnu_check_buckets.proofs.Turns.{least-bound, lesser-both}
@@ -17,7 +17,7 @@ use Rattle.gnu_check_buckets.proofs.lowest_wrong_bucket.Statement.{stat
 use Rattle.gnu_check_buckets.proofs.lowest_wrong_bucket.Tie as tie
 
 -- the table of the arguments
-abbrev table-of : tie.Start → Table
+abbrev table-of : tie.Start → GnuTable
 table-of c =
     let a = c .args in
     tableWith (a .class) (a .order) (a .table .now) (a .symbols .now) (a .strings .now) (a .layout) (a .count)

@@ -1,6 +1,6 @@
 -- `gnu_check_ends::ends_right` meets its contract: both bits are the definition's. Assumes nothing.
 use borrow.Author.Needs.{needs}
-use Rattle.gnu_rules.specs.Rules.{hashOf}
+use Rattle.gnu_rules.specs.Rules.{gnuHashAt}
 use Rattle.gnu_check_hashes.specs.Names.{hashIn}
 use Rattle.gnu_check_ends.specs.Ends.{lastIn}
 use Rattle.gnu_check_ends.proofs.ends_right.Statement.{statement}
@@ -16,7 +16,7 @@ is-last-requires : tie.Need-is-last-requires
 is-last-requires c κs = search needs
 
 returns : tie.Need-returns
-unfolding hashOf hashIn lastIn
+unfolding gnuHashAt hashIn lastIn
 returns c = rw (c .is-last .ensures, c .before .word-of .ensures)
 
 pub ends-right-spec : {M : Type 1} → statement M

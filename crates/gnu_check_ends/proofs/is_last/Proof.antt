@@ -8,23 +8,20 @@ use Rattle.gnu_check_ends.specs.Ends.{lastIn}
 use Rattle.gnu_check_ends.proofs.is_last.Statement.{statement}
 use Rattle.gnu_check_ends.proofs.is_last.Tie as tie
 
-add-if1 : tie.Need-add-if1
-add-if1 c = search needs
+add-next : tie.Need-add-next
+add-next c = search needs
 
 returns : tie.Need-returns
 unfolding lastIn
 returns c =
-    let a = c .before .before .before .args in
-    rw (le-ltb (suc (a .i)) (a .count) (omega (arith, c .if1 .taken)))
+    let a = c .before .before .before .before .args in
+    rw (le-ltb (suc (a .symbol .0)) (a .count) (omega (arith, c .if1 .taken)))
 
 symbol-hash-requires : tie.Need-symbol-hash-requires
 symbol-hash-requires c κs = search needs
 
 rem-b : tie.Need-rem-b
 rem-b c = search needs
-
-add-symbol-hash : tie.Need-add-symbol-hash
-add-symbol-hash c = search needs
 
 symbol-hash-requires-2 : tie.Need-symbol-hash-requires-2
 symbol-hash-requires-2 c κs = search needs
@@ -35,21 +32,20 @@ rem-result c = search needs
 returns-2 : tie.Need-returns-2
 unfolding lastIn
 returns-2 c =
-    let start = c .before .before .before .before .before in
+    let start = c .before .before .before .before .before .before in
     let a = start .args in
     let within = start .pre .1 in
-    let more : suc (a .i) < a .count = omega (arith, c .before .before .if1 .left) in
-    rw (lt-ltb (suc (a .i)) (a .count) more, ← (add-one (a .i)), ← (c .before .symbol-hash .ensures), ← (c .symbol-hash2 .ensures))
+    let more : suc (a .symbol .0) < a .count = omega (arith, c .before .before .if1 .left) in
+    rw (lt-ltb (suc (a .symbol .0)) (a .count) more, ← (add-one (a .symbol .0)), ← (c .before .symbol-hash .ensures), ← (c .symbol-hash2 .ensures))
 
 pub is-last-spec : {M : Type 1} → statement M
 is-last-spec =
     tie.close
     (tie.spec
-    add-if1
+    add-next
     returns
     symbol-hash-requires
     rem-b
-    add-symbol-hash
     symbol-hash-requires-2
     rem-result
     returns-2)

@@ -9,8 +9,9 @@ use borrow.Author.Needs.{needs}
 use borrow.Author.Tests.{eq-eqb, ne-eqb, not-true, not-false}
 use Rattle.endian.specs.declared.kinds.Class.{Class}
 use Rattle.endian.specs.declared.kinds.Order.{Order}
+use Rattle.symbol.specs.Table.{symbolIndex}
 use Rattle.gnu_table.specs.declared.header.Layout.{Layout}
-use Rattle.gnu_table.specs.Header.{tableWith}
+use Rattle.gnu_table.specs.Layout.{tableWith}
 use Rattle.gnu_check_ends.specs.Ends.{endsRun, wrongEnd}
 use Rattle.lookup.specs.Search.{firstFrom}
 use Rattle.lookup.proofs.Searching.{Searching, searching-start, searching-next, searching-here, searching-end}
@@ -50,9 +51,10 @@ first-is k r h = rw (ne-eqb _ 0 (k .if1 .left)) h
 returns-2 : tie.Need-returns-2 Inv-loop μ-loop
 returns-2 c =
     let at-loop = c .before .before .before in
-    first-is (at-loop .before) _
+    ap symbolIndex
+    (first-is (at-loop .before) _
     (searching-here _ _ _ (at-loop .loop .i) (at-loop .loop .inv) (c .before .before .loop-test .taken)
-    (ap not (sym (c .before .ends-right .ensures) ∙ not-true _ (c .if2 .taken))))
+    (ap not (sym (c .before .ends-right .ensures) ∙ not-true _ (c .if2 .taken)))))
 
 add-i : tie.Need-add-i Inv-loop μ-loop
 add-i c = search needs
@@ -69,8 +71,8 @@ loop-again c =
 returns-3 : tie.Need-returns-3 Inv-loop μ-loop
 returns-3 c =
     let at-loop = c .before in
-    first-is (at-loop .before) _
-    (searching-end _ _ _ (at-loop .loop .i) (at-loop .loop .inv) (c .loop-test .left))
+    ap symbolIndex
+    (first-is (at-loop .before) _ (searching-end _ _ _ (at-loop .loop .i) (at-loop .loop .inv) (c .loop-test .left)))
 
 pub lowest-wrong-end-spec : {M : Type 1} → statement M
 lowest-wrong-end-spec =

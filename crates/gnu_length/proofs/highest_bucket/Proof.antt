@@ -8,7 +8,7 @@ use native.Mathlib.Omega.{arith}
 use Rattle.endian.specs.declared.kinds.Order.{Order}
 use Rattle.endian.specs.Word.{wordAt}
 use Rattle.lookup.specs.Pick.{from, largest}
-use Rattle.gnu_length.specs.Length.{highestOf}
+use Rattle.gnu_length.specs.Passes.{highestOf}
 use Rattle.gnu_length.proofs.Lengths.{highest-start, highest-step, highest-end}
 use Rattle.gnu_length.proofs.highest_bucket.Statement.{statement}
 use Rattle.gnu_length.proofs.highest_bucket.Tie as tie

@@ -2,9 +2,8 @@
 use borrow.Author.Needs.{needs}
 use Prim.Native.Nat.{_+_, _-_}
 use mathlib.Core.Path.{_≡_, sym, ap, _∙_}
-use mathlib.Core.Option.{none}
 use native.Mathlib.Omega.{arith}
-use Rattle.gnu_table.specs.Header.{tableAt}
+use Rattle.gnu_table.specs.Places.{tableAt}
 use Rattle.gnu_length.specs.Length.{lengthAnswer}
 use Rattle.gnu_length.proofs.Lengths.{length-base, length-buckets, length-below, length-is}
 use Rattle.gnu_length.proofs.length_at.Statement.{statement}
@@ -13,12 +12,12 @@ use Rattle.gnu_length.proofs.length_at.Tie as tie
 returns : tie.Need-returns
 returns c =
     let a = c .before .before .args in
-    sym (ap (lengthAnswer none) (length-base (tableAt (a .class) (a .order) (a .table .now) (a .layout) 0) (c .if1 .taken)))
+    sym (ap lengthAnswer (length-base (tableAt (a .class) (a .order) (a .table .now) (a .layout) 0) (c .if1 .taken)))
 
 returns-2 : tie.Need-returns-2
 returns-2 c =
     let a = c .before .before .before .args in
-    sym (ap (lengthAnswer none)
+    sym (ap lengthAnswer
     (length-buckets (tableAt (a .class) (a .order) (a .table .now) (a .layout) 0) (c .before .if1 .left) (c .if2 .taken)))
 
 highest-bucket-requires : tie.Need-highest-bucket-requires
@@ -29,7 +28,7 @@ returns-3 c =
     let some = c .before .before in
     let a = some .before .before .before .args in
     let t = tableAt (a .class) (a .order) (a .table .now) (a .layout) 0 in
-    sym (ap (lengthAnswer none)
+    sym (ap lengthAnswer
     (length-below t (some .before .if1 .left) (some .if2 .left) (rw (← (c .before .highest-bucket .ensures)) (c .if3 .taken))))
 
 cast-end : tie.Need-cast-end
@@ -62,7 +61,7 @@ returns-4 c =
     omega (arith, c .before .before .if3 .left) in
     let is = length-is t (some .before .if1 .left) (some .if2 .left)
     (rw (← (at-highest .highest-bucket .ensures)) (c .before .before .if3 .left)) in
-    c .length-from .ensures ∙ rw (left, at-highest .highest-bucket .ensures) (sym (ap (lengthAnswer none) is))
+    c .length-from .ensures ∙ rw (left, at-highest .highest-bucket .ensures) (sym (ap lengthAnswer is))
 
 pub length-at-spec : {M : Type 1} → statement M
 length-at-spec =

@@ -4,12 +4,11 @@ use borrow.Author.Needs.{needs}
 use Prim.Native.Nat.{_-_, _≤_}
 use mathlib.Core.Path.{_≡_, refl, sym, ap, _∙_}
 use mathlib.Core.Bool.{true, false}
-use mathlib.Core.Option.{none}
 use native.Mathlib.Omega.{arith}
 use borrow.Author.Tests.{eq-eqb, ne-eqb}
 use Rattle.lookup.specs.Pick.{from, firstOf}
 use Rattle.gnu_length.specs.Length.{numberAfter, lengthAnswer}
-use Rattle.gnu_table.specs.Header.{pairEnds}
+use Rattle.gnu_table.specs.Places.{pairEnds}
 use Rattle.gnu_length.proofs.Lengths.{chain-hit, chain-on, chain-end}
 use Rattle.gnu_length.proofs.length_from.Statement.{statement}
 use Rattle.gnu_length.proofs.length_from.Tie as tie
@@ -48,7 +47,7 @@ returns c =
     let ends = pairEnds (a .order) (a .table .now) (a .values-at) (a .base) in
     let ended : ends (at-loop .loop .i) ≡ true = rw (← (c .before .before .u32-at .ensures)) (eq-eqb _ 1 (c .before .if1 .taken)) in
     c .number-after .ensures
-    ∙ ap (λ o. lengthAnswer none (numberAfter o))
+    ∙ ap (λ o. lengthAnswer (numberAfter o))
     (sym (chain-hit ends (at-loop .loop .i) (a .end) (c .before .before .before .loop-test .taken) ended)
     ∙ at-loop .loop .inv .1)
 
@@ -73,7 +72,7 @@ returns-2 : tie.Need-returns-2 Inv-loop μ-loop
 returns-2 c =
     let at-loop = c .before in
     let a = at-loop .before .before .args in
-    ap (λ o. lengthAnswer none (numberAfter o))
+    ap (λ o. lengthAnswer (numberAfter o))
     (sym (chain-end (pairEnds (a .order) (a .table .now) (a .values-at) (a .base)) (at-loop .loop .i) (a .end) (c .loop-test .left))
     ∙ at-loop .loop .inv .1)
 

@@ -2,7 +2,7 @@
 use borrow.Author.Needs.{needs}
 use mathlib.Core.Path.{sym, ap, _∙_}
 use Rattle.gnu_table.specs.declared.header.HeaderAt.{HeaderAt}
-use Rattle.gnu_table.specs.Header.{tableAt}
+use Rattle.gnu_table.specs.Places.{tableAt}
 use Rattle.gnu_length.specs.Length.{lengthOf}
 use Rattle.gnu_length.proofs.Lengths.{lengthBy, length-by}
 use Rattle.gnu_length.proofs.table_length.Statement.{statement}

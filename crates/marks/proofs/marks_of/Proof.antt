@@ -1,10 +1,9 @@
 -- `marks::marks_of` meets its contract: both counts, then the marks. Assumes nothing.
-use Prim.Native.Nat.{ℕ, _/_}
+use Prim.Native.Nat.{ℕ}
 use mathlib.Core.Path.{_≡_, refl, sym, _∙_}
 use mathlib.Core.List.{[], _∷_}
-use lib.ListN.{length}
 use Rattle.endian.specs.Refusals.{anyLong}
-use Rattle.symbol.specs.Table.{symbolSize}
+use Rattle.symbol.specs.Table.{symbolsIn}
 use Rattle.definitions.specs.declared.Definitions.{Definitions}
 use Rattle.definitions.specs.declared.Which.{Which}
 use Rattle.definitions.specs.declared.Which.the-variants.{All, Unversioned}
@@ -27,7 +26,7 @@ module _ (start : tie.Start) where
       let a = start .args in
       countIn
       (definesIn (a .class) (a .order) (a .symbols .now) (a .strings .now) (a .versyms .now) (a .name .now) which)
-      (length (a .symbols .now) / symbolSize (a .class))
+      (symbolsIn (a .class) (a .symbols .now))
 
   told : (all bare : Definitions) → all ≡ counted All → bare ≡ counted Unversioned
       → let a = start .args in

@@ -18,10 +18,10 @@ abbrev broken : Class → Order → (symbols strings : List ℕ) → ℕ → Boo
 broken class order symbols strings i = not (readableIn class order symbols strings i)
 
 abbrev Inv-loop : tie.InvT-loop
-Inv-loop class order symbols strings low count end i₀ i = Searching (broken class order symbols strings) low count i
+Inv-loop class order symbols strings count end i₀ i = Searching (broken class order symbols strings) i₀ count i
 
 abbrev μ-loop : tie.MeasureT-loop
-μ-loop class order symbols strings low count end i₀ i = count - i
+μ-loop class order symbols strings count end i₀ i = count - i
 
 readable-end-requires : tie.Need-readable-end-requires Inv-loop μ-loop
 readable-end-requires c κs = search needs
@@ -50,8 +50,9 @@ tested c =
 returns : tie.Need-returns Inv-loop μ-loop
 returns c =
     let at-loop = c .before .before .before in
-    searching-here _ _ _ (at-loop .loop .i) (at-loop .loop .inv) (c .before .before .loop-test .taken)
-    (ap not (tested (c .before)) ∙ c .if1 .taken)
+    ap symbolIndex
+    (searching-here _ _ _ (at-loop .loop .i) (at-loop .loop .inv) (c .before .before .loop-test .taken)
+    (ap not (tested (c .before)) ∙ c .if1 .taken))
 
 add-i : tie.Need-add-i Inv-loop μ-loop
 add-i c = search needs
@@ -66,7 +67,7 @@ loop-again c =
     (ap not (tested (c .before)) ∙ c .if1 .left)
 
 returns-2 : tie.Need-returns-2 Inv-loop μ-loop
-returns-2 c = searching-end _ _ _ (c .before .loop .i) (c .before .loop .inv) (c .loop-test .left)
+returns-2 c = ap symbolIndex (searching-end _ _ _ (c .before .loop .i) (c .before .loop .inv) (c .loop-test .left))
 
 pub lowest-unreadable-spec : {M : Type 1} → statement M
 lowest-unreadable-spec =

@@ -6,8 +6,8 @@ use mathlib.Core.Path.{_≡_, sym, _∙_, subst}
 use mathlib.Core.Bool.{Bool}
 use native.Mathlib.Omega.{arith}
 use Rattle.lookup.specs.Wanted.{wanted}
-use Rattle.gnu_table.specs.Table.{Table, bloomFilter}
-use Rattle.gnu_table.specs.Header.{tableAt}
+use Rattle.gnu_table.specs.Table.{GnuTable, bloomFilter}
+use Rattle.gnu_table.specs.Places.{tableAt}
 use Rattle.gnu.specs.Walk.{walkPairs}
 use Rattle.gnu.proofs.Finds.{filter-any}
 use Rattle.gnu.proofs.Lookups.{InRange, start-range, lookup-stops, lookup-refuses, lookup-nowhere, lookup-walks}
@@ -19,7 +19,7 @@ module _ (k : tie.After-bloom-filter) where
   abbrev start : tie.Start
   start = k .before .before .before .before .before .before .before .before .before
 
-  abbrev table : Table
+  abbrev table : GnuTable
   table = tableAt (start .args .class) (start .args .order) (start .args .table .now) (start .args .layout) (start .args .count)
 
   abbrev asked-for : ℕ → Bool

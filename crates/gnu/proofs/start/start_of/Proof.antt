@@ -1,7 +1,7 @@
 -- `gnu::start::start_of` meets its contract: each return is the law of its answer. Assumes nothing.
 use borrow.Author.Needs.{needs}
 use mathlib.Core.Path.{sym}
-use Rattle.gnu_table.specs.Header.{tableAt}
+use Rattle.gnu_table.specs.Places.{tableAt}
 use Rattle.gnu.proofs.Lookups.{start-none, start-past, start-below, start-values, start-is}
 use Rattle.gnu.proofs.start.start_of.Statement.{statement}
 use Rattle.gnu.proofs.start.start_of.Tie as tie

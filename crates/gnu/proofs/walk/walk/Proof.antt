@@ -9,7 +9,7 @@ use borrow.Author.Tests.{eq-eqb, ne-eqb}
 use Rattle.lookup.specs.Pick.{from}
 use Rattle.lookup.specs.Wanted.{Parts, Asked}
 use Rattle.lookup.proofs.Picking.{either}
-use Rattle.gnu_table.specs.Header.{pairEnds}
+use Rattle.gnu_table.specs.Places.{pairEnds}
 use Rattle.gnu.specs.Walk.{pairMatches, walkPairs}
 use Rattle.gnu.proofs.Walking.{walkFrom, walkFrom-start, walkFrom-none, walkFrom-match, walkFrom-end, walkFrom-on}
 use Rattle.gnu.proofs.walk.walk.Statement.{statement}

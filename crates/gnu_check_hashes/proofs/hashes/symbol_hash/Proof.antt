@@ -23,14 +23,14 @@ returns c =
     let args = called .before .before .before .args in
     c .hash-at .ensures
     ∙ sym (hashIn-at (args .class) (args .order) (args .symbols .now) (args .strings .now)
-    (args .i) _ (sym (called .symbol-at .ensures) ∙ c .before .before .entry .given .1))
+    (args .symbol .0) _ (sym (called .symbol-at .ensures) ∙ c .before .before .entry .given .1))
 
 returns-2 : tie.Need-returns-2
 returns-2 c =
     let called = c .before .before in
     let args = called .before .before .before .args in
     sym (hashIn-none (args .class) (args .order) (args .symbols .now) (args .strings .now)
-    (args .i) _ (sym (called .symbol-at .ensures) ∙ c .enum-told .given .1))
+    (args .symbol .0) _ (sym (called .symbol-at .ensures) ∙ c .enum-told .given .1))
 
 pub symbol-hash-spec : {M : Type 1} → statement M
 symbol-hash-spec =

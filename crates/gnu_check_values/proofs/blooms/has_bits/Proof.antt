@@ -3,9 +3,10 @@
 use mathlib.Core.Path.{_≡_, sym, ap, _∙_}
 use borrow.Author.Needs.{needs}
 use Rattle.gnu_table.specs.declared.filter.Bloom.{Bloom}
-use Rattle.gnu_table.specs.Header.{tableAt, tableWith}
+use Rattle.gnu_table.specs.Places.{tableAt}
+use Rattle.gnu_table.specs.Layout.{tableWith}
 use Rattle.gnu_table.specs.Table.{bloomFirst, bloomSecond, bloomFilter}
-use Rattle.gnu_rules.specs.Rules.{hashOf}
+use Rattle.gnu_rules.specs.Rules.{gnuHashAt}
 use Rattle.gnu_check_hashes.specs.Names.{hashIn}
 use Rattle.gnu_check_values.specs.Blooms.{passes, hashPasses}
 use Rattle.gnu_check_values.proofs.blooms.has_bits.Statement.{statement}
@@ -30,8 +31,8 @@ enum-told-3 c = search needs
 bits : (c : tie.After-bloom-filter) (bloom : Bloom) → c .bloom-filter .result ≡ bloom
     → let a = c .before .before .before .before .before .args in
     passes bloom
-    ≡ hashPasses (tableWith (a .class) (a .order) (a .table .now) (a .symbols .now) (a .strings .now) (a .layout) 0) (a .i)
-unfolding hashPasses hashOf hashIn bloomFilter bloomFirst bloomSecond
+    ≡ hashPasses (tableWith (a .class) (a .order) (a .table .now) (a .symbols .now) (a .strings .now) (a .layout) 0) (a .symbol .0)
+unfolding hashPasses gnuHashAt hashIn bloomFilter bloomFirst bloomSecond
 bits c bloom told =
     let a = c .before .before .before .before .before .args in
     ap passes (sym told ∙ c .bloom-filter .ensures)

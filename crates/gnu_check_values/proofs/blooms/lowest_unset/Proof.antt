@@ -8,10 +8,11 @@ use borrow.Author.Needs.{needs}
 use borrow.Author.Tests.{not-true, not-false}
 use Rattle.endian.specs.declared.kinds.Class.{Class}
 use Rattle.endian.specs.declared.kinds.Order.{Order}
+use Rattle.symbol.specs.Table.{symbolIndex}
 use Rattle.gnu_table.specs.declared.header.Layout.{Layout}
-use Rattle.gnu_table.specs.Header.{tableWith}
+use Rattle.gnu_table.specs.Layout.{tableWith}
 use Rattle.gnu_table.specs.Table.{bloomFirst, bloomSecond, bloomFilter}
-use Rattle.gnu_rules.specs.Rules.{hashOf}
+use Rattle.gnu_rules.specs.Rules.{gnuHashAt}
 use Rattle.lookup.proofs.Searching.{Searching, searching-start, searching-next, searching-here, searching-end}
 use Rattle.gnu_check_values.specs.Blooms.{hashPasses}
 use Rattle.gnu_check_values.proofs.blooms.lowest_unset.Statement.{statement}
@@ -40,14 +41,15 @@ tested : (c : tie.After-has-bits Inv-loop μ-loop)
     c .has-bits .result
     ≡ hashPasses (tableWith (a .class) (a .order) (a .table .now) (a .symbols .now) (a .strings .now) (a .layout)
     (a .count)) (c .before .before .loop .i)
-unfolding hashPasses hashOf bloomFilter bloomFirst bloomSecond
+unfolding hashPasses gnuHashAt bloomFilter bloomFirst bloomSecond
 tested c = c .has-bits .ensures
 
 returns : tie.Need-returns Inv-loop μ-loop
 returns c =
     let at-loop = c .before .before .before in
-    searching-here _ _ _ (at-loop .loop .i) (at-loop .loop .inv) (c .before .before .loop-test .taken)
-    (ap not (sym (tested (c .before)) ∙ not-true _ (c .if1 .taken)))
+    ap symbolIndex
+    (searching-here _ _ _ (at-loop .loop .i) (at-loop .loop .inv) (c .before .before .loop-test .taken)
+    (ap not (sym (tested (c .before)) ∙ not-true _ (c .if1 .taken))))
 
 add-i : tie.Need-add-i Inv-loop μ-loop
 add-i c = search needs
@@ -62,7 +64,7 @@ loop-again c =
     (ap not (sym (tested (c .before)) ∙ not-false _ (c .if1 .left)))
 
 returns-2 : tie.Need-returns-2 Inv-loop μ-loop
-returns-2 c = searching-end _ _ _ (c .before .loop .i) (c .before .loop .inv) (c .loop-test .left)
+returns-2 c = ap symbolIndex (searching-end _ _ _ (c .before .loop .i) (c .before .loop .inv) (c .loop-test .left))
 
 pub lowest-unset-spec : {M : Type 1} → statement M
 lowest-unset-spec =

@@ -1,6 +1,6 @@
 -- `gnu_check_values::values::value_is_right` meets its contract: both words are the definition's. Assumes nothing.
 use borrow.Author.Needs.{needs}
-use Rattle.gnu_rules.specs.Rules.{hashOf}
+use Rattle.gnu_rules.specs.Rules.{gnuHashAt}
 use Rattle.gnu_check_hashes.specs.Names.{hashIn}
 use Rattle.gnu_check_values.proofs.values.value_is_right.Statement.{statement}
 use Rattle.gnu_check_values.proofs.values.value_is_right.Tie as tie
@@ -15,7 +15,7 @@ symbol-hash-requires : tie.Need-symbol-hash-requires
 symbol-hash-requires c κs = search needs
 
 returns : tie.Need-returns
-unfolding hashOf hashIn
+unfolding gnuHashAt hashIn
 returns c = rw (c .symbol-hash .ensures, c .before .word-of .ensures)
 
 pub value-is-right-spec : {M : Type 1} → statement M

@@ -2,7 +2,6 @@
 -- The measure is what is left of 32. Assumes nothing.
 use Prim.Native.Nat.{_-_}
 use mathlib.Core.Path.{sym, _∙_}
-use native.Mathlib.Omega.{arith}
 use borrow.Author.Needs.{needs}
 use borrow.Author.Tests.{eq-eqb, ne-eqb}
 use Rattle.gnu_rules.proofs.Powers.{isPower, power-found, power-none, shifted}

@@ -7,7 +7,7 @@ use native.Mathlib.Omega.{arith}
 use native.Mathlib.Nat.{mod-lt}
 use borrow.Author.Tests.{not-true, not-false}
 use Rattle.gnu_table.specs.Table.{bloomFirst, bloomSecond}
-use Rattle.gnu_table.specs.Header.{tableAt}
+use Rattle.gnu_table.specs.Places.{tableAt}
 use Rattle.gnu_table.proofs.Filters.{filter-none, filter-first, filter-shift, filter-second, filter-passes}
 use Rattle.gnu_table.proofs.filter.bloom_filter.Statement.{statement}
 use Rattle.gnu_table.proofs.filter.bloom_filter.Tie as tie

@@ -5,7 +5,7 @@ use Prim.Native.Nat.{_+_, _*_}
 use mathlib.Core.Path.{_≡_, sym}
 use native.Mathlib.Omega.{arith}
 use native.Mathlib.Nat.{mul-le-mul-left}
-use Rattle.gnu_table.specs.Layout.{bucketsAt, valuesAt}
+use Rattle.gnu_table.specs.Header.{bucketsAt, valuesAt}
 use Rattle.gnu_table.proofs.Headers.{header-long, header-short, header-bloom, header-buckets, header-is}
 use Rattle.gnu_table.proofs.header.header.Statement.{statement}
 use Rattle.gnu_table.proofs.header.header.Tie as tie

@@ -5,9 +5,9 @@ use Rattle.endian.specs.Refusals.{tooLong}
 use Rattle.lookup.specs.declared.Answer.{Answer}
 use Rattle.lookup.specs.Wanted.{Parts, Asked, wanted}
 use Rattle.sysv_header.specs.declared.header.HeaderAt.{HeaderAt}
-use Rattle.sysv_header.specs.Header.{headerAt}
+use Rattle.sysv_header.specs.Reading.{headerAt}
 use Rattle.sysv_header.proofs.Headers.{header-read}
-use Rattle.sysv.specs.Table.{lookup}
+use Rattle.sysv.specs.Table.{sysvLookup}
 use Rattle.sysv.specs.Find.{sysvTable, sysvFind}
 use Rattle.sysv.proofs.Headers.{findFrom, find-from}
 use borrow.Author.Needs.{needs}
@@ -34,7 +34,7 @@ module _ (k : tie.After-any-long) where
 
   abbrev behind : HeaderAt → Answer
   behind header =
-      findFrom header (lookup (sysvTable (start .args .class) (start .args .order) parts) (start .args .hash)
+      findFrom header (sysvLookup (sysvTable (start .args .class) (start .args .order) parts) (start .args .hash)
       (wanted (start .args .class) (start .args .order) parts asked))
 
   found : (long : Bool) → k .any-long .result ≡ long

@@ -8,12 +8,11 @@ use Rattle.endian.specs.Refusals.{limit, tooLong}
 use Rattle.symbol.specs.declared.table.SymbolCount.{SymbolCount}
 use Rattle.symbol.specs.Table.{symbolCount}
 use Rattle.sysv_header.specs.declared.header.HeaderAt.{HeaderAt}
-use Rattle.sysv_header.specs.Header.{headerAt}
-use Rattle.sysv.specs.Layout.{tableOf}
+use Rattle.sysv_header.specs.Reading.{headerAt}
+use Rattle.sysv.specs.Layout.{sysvTableOf}
 use Rattle.sysv_header.proofs.Headers.{header-read}
 use Rattle.sysv_check.specs.declared.table.Checked.{Checked}
-use Rattle.sysv_check.specs.Rules.{firstGlobal}
-use Rattle.sysv_check.specs.Rules.{check as checkOf}
+use Rattle.sysv_check.specs.Rules.{firstGlobal, sysvTableCheck}
 use Rattle.sysv_check.specs.Check.{sysvCheck}
 use Rattle.sysv_check.proofs.Passes.{checkFrom, check-from, count-read}
 use borrow.Author.Needs.{needs}
@@ -25,7 +24,7 @@ module _ (start : tie.Start) where
   abbrev behind : SymbolCount → HeaderAt → Checked
   behind count header =
       checkFrom count header
-      (checkOf (tableOf (start .args .order) (start .args .table .now) (start .args .class) (start .args .symbols .now)
+      (sysvTableCheck (sysvTableOf (start .args .order) (start .args .table .now) (start .args .class) (start .args .symbols .now)
       (start .args .strings .now)) firstGlobal)
 
   abbrev answer : Bool → Checked

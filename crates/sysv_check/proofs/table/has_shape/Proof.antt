@@ -1,4 +1,4 @@
--- `sysv_check::table::has_shape` meets its contract. Each return is a case of `shaped`. Assumes nothing.
+-- `sysv_check::table::has_shape` meets its contract. Each return is a case of `t1`. Assumes nothing.
 use borrow.Author.Tests.{lt-leb, le-leb, eq-eqb, ne-eqb}
 use Rattle.sysv_check.proofs.table.has_shape.Statement.{statement}
 use Rattle.sysv_check.proofs.table.has_shape.Tie as tie

@@ -6,19 +6,20 @@ use borrow.Author.Needs.{needs}
 use borrow.Author.Tests.{not-true}
 use Rattle.endian.specs.Word.{wordAt}
 use Rattle.lookup.specs.Wanted.{nameOf}
-use Rattle.sysv_check_chains.specs.Pass.{hashOf, mayStand}
+use Rattle.sysv_check_chains.specs.Pass.{mayStand}
+use Rattle.sysv_check_chains.specs.Hash.{sysvHashAt}
 use Rattle.sysv_check_chains.proofs.Following.{range-wrong, Passing, passing-start, passing-wrong, passing-on, passing-end}
 use Rattle.sysv_check_chains.proofs.chains.chains_hold.Statement.{statement}
 use Rattle.sysv_check_chains.proofs.chains.chains_hold.Tie as tie
 
 abbrev Inv-loop : tie.InvT-loop
-Inv-loop class order table symbols strings buckets count low steps chains-at left₀ b₀ left b =
+Inv-loop class order table symbols strings buckets count steps low chains-at left₀ b₀ left b =
     (chains-at ≡ 8 + buckets * 4)
     × Passing (λ j. wordAt order 4 table (8 + buckets * 4 + j * 4)) (λ a. wordAt order 4 table (8 + a * 4))
-    (mayStand (λ j. hashOf (nameOf class order symbols strings) j % buckets) low count) buckets steps b left
+    (mayStand (λ j. sysvHashAt (nameOf class order symbols strings) j % buckets) low count) buckets steps b left
 
 abbrev μ-loop : tie.MeasureT-loop
-μ-loop class order table symbols strings buckets count low steps chains-at left₀ b₀ left b = buckets - b
+μ-loop class order table symbols strings buckets count steps low chains-at left₀ b₀ left b = buckets - b
 
 mul-chains-at : tie.Need-mul-chains-at Inv-loop μ-loop
 mul-chains-at c = search needs
@@ -51,8 +52,8 @@ returns c =
     let args = read .before .before .before .before .before .before .args in
     passing-wrong _ _ _ _ _ (at .b) (at .left) (at .inv .1) (read .before .loop-test .taken)
     (range-wrong (λ j. wordAt (args .order) 4 (args .table .now) (8 + args .buckets * 4 + j * 4))
-    (λ j. hashOf (nameOf (args .class) (args .order) (args .symbols .now) (args .strings .now)) j % args .buckets)
-    (args .low) (args .count) (at .b) (at .left) (wordAt (args .order) 4 (args .table .now) (8 + at .b * 4))
+    (λ j. sysvHashAt (nameOf (args .class) (args .order) (args .symbols .now) (args .strings .now)) j % args .buckets)
+    (args .first .0) (args .count) (at .b) (at .left) (wordAt (args .order) 4 (args .table .now) (8 + at .b * 4))
     (sym (rw (at .inv .0, read .u32-at .ensures) at (c .before .chain-ends .ensures)) ∙ not-true _ (c .if1 .taken)))
 
 follow-requires : tie.Need-follow-requires Inv-loop μ-loop

@@ -7,7 +7,7 @@ use borrow.Author.Needs.{needs}
 use borrow.Author.Tests.{not-true, not-false}
 use Rattle.endian.specs.Word.{wordAt}
 use Rattle.lookup.specs.Wanted.{nameOf}
-use Rattle.sysv_check_chains.specs.Pass.{hashOf}
+use Rattle.sysv_check_chains.specs.Hash.{sysvHashAt}
 use Rattle.sysv_check_chains.specs.Pass.{mayStand}
 use Rattle.sysv_check_chains.proofs.Following.{Following, following-start, following-zero, following-spent, following-bad, following-on}
 use Rattle.sysv_check_chains.proofs.chains.follow.Statement.{statement}
@@ -17,7 +17,7 @@ abbrev Inv-loop : tie.InvT-loop
 Inv-loop class order table symbols strings buckets chains-at count low b start left number₀ k₀ number k =
     (number < 2 ^ 32)
     × Following (λ j. wordAt order 4 table (chains-at + j * 4))
-    (mayStand (λ j. hashOf (nameOf class order symbols strings) j % buckets) low count b) left start number k
+    (mayStand (λ j. sysvHashAt (nameOf class order symbols strings) j % buckets) low count b) left start number k
 
 abbrev μ-loop : tie.MeasureT-loop
 μ-loop class order table symbols strings buckets chains-at count low b start left number₀ k₀ number k = k

@@ -1,7 +1,7 @@
 -- `sysv_header::header::header_of` meets its contract. Each return is a case of `headerAt`. Assumes nothing.
 use borrow.Author.Needs.{needs}
 use borrow.Author.Tests.{lt-ltb, le-ltb}
-use Rattle.sysv_header.specs.Header.{headerAt}
+use Rattle.sysv_header.specs.Reading.{headerAt}
 use Rattle.sysv_header.proofs.header.header_of.Statement.{statement}
 use Rattle.sysv_header.proofs.header.header_of.Tie as tie
 
