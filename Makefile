@@ -12,7 +12,7 @@
 ORACLE ?= ../shared/oracle
 CARGO := cargo
 # The crates with the exported functions.
-EXPORTS := words strings symbols symbol_facts hashes notes properties versions version_match version_parse gnu_find sysv_find lengths checks segments segment_data segment_dynamic segment_parts
+EXPORTS := bytes symbols notes versions version_match version_parse gnu_find sysv_find tables segments segment_data
 ARCHIVE := target/staticlib/libfetulombo.a
 OBJECTS := target/archive
 FIRST := target/first

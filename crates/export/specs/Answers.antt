@@ -1,26 +1,14 @@
 -- The answers as C gets them: document 01's number of a refusal, or 0, and the values of each case; what a case lacks is 0.
---     classOf, orderOf                      the values behind the numbers that C passes
---     number, noNumber, truth               a number, a refusal in its place, and a truth as a number
---     placeOf                               of `StringAt`
+--     number, noNumber, truth    a number, a refusal in its place, and a truth as a number
+--     placeOf                    of `StringAt`
 -- Assumes nothing.
 use Prim.Native.Nat.{ℕ}
 use mathlib.Core.Bool.{Bool, cond}
-use lib.Dec.{eqb}
-use Rattle.endian.specs.declared.kinds.Class.{Class}
-use Rattle.endian.specs.declared.kinds.Class.the-variants.{Elf32, Elf64}
-use Rattle.endian.specs.declared.kinds.Order.{Order}
-use Rattle.endian.specs.declared.kinds.Order.the-variants.{Little, Big}
 use Rattle.endian.specs.declared.refusals.Refusal.{Refusal}
 use Rattle.strings.specs.declared.StringAt.{StringAt}
 use Rattle.strings.specs.declared.StringAt.the-variants.{At, Refused}
 use Rattle.export.specs.declared.answers.NumberAnswer.{NumberAnswer}
 use Rattle.export.specs.declared.answers.PlaceAnswer.{PlaceAnswer}
-
-abbrev pub classOf : ℕ → Class
-classOf n = cond (eqb n 0) Elf32 Elf64
-
-abbrev pub orderOf : ℕ → Order
-orderOf n = cond (eqb n 0) Little Big
 
 abbrev pub number : ℕ → NumberAnswer
 number n = record { refusal = 0; value = n; unused = 0 }

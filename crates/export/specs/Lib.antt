@@ -1,1 +1,4 @@
 pub mod Answers
+pub mod Kinds
+pub mod Lookups
+pub mod Parts

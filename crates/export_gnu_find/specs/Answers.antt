@@ -1,10 +1,14 @@
 -- The lookup in a GNU table as C gets it: class and order are the numbers that C passes. Assumes nothing.
 use Prim.Native.Nat.{ℕ}
-use Rattle.lookup.specs.Wanted.{Parts, Asked}
+use Rattle.lookup.specs.declared.Answer.{Answer}
+use Rattle.lookup.specs.Wanted.{Parts, Asked, allParts}
 use Rattle.gnu.specs.Find.{gnuFind}
-use Rattle.export.specs.Answers.{classOf, orderOf}
-use Rattle.export_lookup.specs.declared.LookupAnswer.{LookupAnswer}
-use Rattle.export_lookup.specs.Answers.{lookupAnswer}
+use Rattle.export.specs.Kinds.{areKinds, classOf, orderOf, unlessUnknown}
+use Rattle.export.specs.Lookups.{lookupAnswer}
+use Rattle.export.specs.declared.lookups.LookupAnswer.{LookupAnswer}
 
 abbrev pub gnuAnswer : (class order : ℕ) → Parts → Asked → (hash : ℕ) → LookupAnswer
-gnuAnswer class order parts asked hash = lookupAnswer (gnuFind (classOf class) (orderOf order) parts asked hash)
+gnuAnswer class order parts asked hash =
+    lookupAnswer
+    (unlessUnknown Answer.Refused (areKinds class order) (allParts parts asked)
+    (gnuFind (classOf class) (orderOf order) parts asked hash))

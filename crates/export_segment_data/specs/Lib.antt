@@ -1,1 +1,3 @@
-pub mod Answers
+pub mod Data
+pub mod Dynamic
+pub mod Parts

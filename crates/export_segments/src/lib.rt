@@ -1,17 +1,20 @@
-// Segments, for C. What a segment's type and flags say is asked by these two numbers.
+// Segments, for C. Refused in this order: a table that is too long; a number that is no class or no order;
+// as the functions of `segment`. What a segment's type and flags say is asked by these two numbers.
+use endian::refusals::UNKNOWN_KIND;
 use export::answers::NumberAnswer;
 use export::answers::no_number;
 use export::answers::number_answer;
+use export::kinds::are_kinds;
 use export::kinds::class_of;
+use export::kinds::is_kind;
 use export::kinds::order_of;
+use export::kinds::unless_long;
 use segment::table::SegmentAt;
 use segment::table::SegmentCount;
 use segment_entry::Segment;
 use segment_entry::SegmentKind;
 ghost use mathlib.Core.Path.{_≡_};
-ghost use Rattle.segment.specs.Table.{segmentCount, segmentAt};
-ghost use Rattle.export.specs.Answers.{classOf, orderOf};
-ghost use Rattle.export_segments.specs.Answers.{entry, countAnswer, segmentAnswer, kindNumber, facts};
+ghost use Rattle.export_segments.specs.Answers.{segmentCountAnswer, segmentAnswer, segmentAtAnswer, entry, kindNumber, facts};
 
 // The fields of a segment.
 #[repr(C)]
@@ -38,8 +41,11 @@ pub struct SegmentFactsAnswer {
 
 #[no_mangle]
 pub extern "C" fn fetulombo_segment_count(class: u8, table: &[u8]) -> NumberAnswer
-    ensures { λ r. ⌜ r ≡ countAnswer (segmentCount (classOf class) (now (table .entry))) ⌝ }
+    ensures { λ r. ⌜ r ≡ segmentCountAnswer class (now (table .entry)) ⌝ }
 {
+    if !is_kind(class) {
+        return no_number(unless_long(table, UNKNOWN_KIND));
+    }
     match segment::table::segment_count(class_of(class), table) {
         SegmentCount::Segments(count) => number_answer(count as u64),
         SegmentCount::Refused(refusal) => no_number(refusal),
@@ -82,8 +88,11 @@ pub extern "C" fn fetulombo_segment_at(
     table: &[u8],
     number: u32,
 ) -> SegmentAnswer
-    ensures { λ r. ⌜ r ≡ segmentAnswer (segmentAt (classOf class) (orderOf order) (now (table .entry)) number) ⌝ }
+    ensures { λ r. ⌜ r ≡ segmentAtAnswer class order (now (table .entry)) number ⌝ }
 {
+    if !are_kinds(class, order) {
+        return segment_answer(SegmentAt::Refused(unless_long(table, UNKNOWN_KIND)));
+    }
     segment_answer(segment::table::segment_at(class_of(class), order_of(order), table, number))
 }
 

@@ -1,14 +1,15 @@
 // Versions, for C.
+use endian::refusals::UNKNOWN_KIND;
+use export::kinds::is_kind;
 use export::kinds::order_of;
+use export::kinds::unless_long;
 use symbol::table::SymbolIndex;
 use version::index::VersionIndex;
 use version::table::EntryAt;
 use version::table::VersymAt;
 ghost use mathlib.Core.Path.{_≡_};
-ghost use Rattle.symbol.specs.Table.{symbolIndex};
-ghost use Rattle.version.specs.Table.{entryAt, versymAt};
-ghost use Rattle.export.specs.Answers.{orderOf};
-ghost use Rattle.export_versions.specs.Answers.{versionIndex, noVersion, versionAnswer, versymAnswer};
+ghost use Rattle.version.specs.Table.{entryAt};
+ghost use Rattle.export_versions.specs.Answers.{versionIndex, noVersion, versionAnswer, versymAnswer, versionOfAnswer};
 
 // What stands behind a version index: special is 1 for the indices 0 and 1, which name no version.
 #[repr(C)]
@@ -77,12 +78,10 @@ pub extern "C" fn fetulombo_version_entry(
     version_answer(version::table::entry(store, strings, VersionIndex(index)))
 }
 
-// The version of a symbol.
-#[no_mangle]
-pub extern "C" fn fetulombo_version_of(order: u8, versyms: &[u8], symbol: u32) -> VersymAnswer
-    ensures { λ r. ⌜ r ≡ versymAnswer (versymAt (orderOf order) (now (versyms .entry)) (symbolIndex symbol)) ⌝ }
+fn versym_answer(found: VersymAt) -> VersymAnswer
+    ensures { λ r. ⌜ r ≡ versymAnswer found ⌝ }
 {
-    match version::table::version_of(order_of(order), versyms, SymbolIndex(symbol)) {
+    match found {
         VersymAt::At(versym) => VersymAnswer {
             refusal: 0,
             index: versym.index.0 as u64,
@@ -94,4 +93,16 @@ pub extern "C" fn fetulombo_version_of(order: u8, versyms: &[u8], symbol: u32) -
             hidden: 0,
         },
     }
+}
+
+// The version of a symbol. Refused in this order: versyms that are too long; a number that is no order;
+// as `version::table::version_of`.
+#[no_mangle]
+pub extern "C" fn fetulombo_version_of(order: u8, versyms: &[u8], symbol: u32) -> VersymAnswer
+    ensures { λ r. ⌜ r ≡ versionOfAnswer order (now (versyms .entry)) symbol ⌝ }
+{
+    if !is_kind(order) {
+        return versym_answer(VersymAt::Refused(unless_long(versyms, UNKNOWN_KIND)));
+    }
+    versym_answer(version::table::version_of(order_of(order), versyms, SymbolIndex(symbol)))
 }

@@ -1,4 +1,4 @@
 // GNU symbol versions: definitions and needs parsed into a lent store.
 mod fill;
 pub mod parse;
-mod store;
+pub mod store;

@@ -8,7 +8,7 @@ ghost use lib.ListN.{length, replicate};
 ghost use Rattle.version.specs.Store.{storeNeeds, putEntry};
 
 // Leaves 0 throughout.
-pub(crate) fn zero(store: &mut [u32])
+pub fn zero(store: &mut [u32])
     ensures { λ r. ⌜ now (store .exit) ≡ replicate (length (now (store .entry))) 0 ⌝ }
 {
     let mut i = 0;

@@ -1,0 +1,3 @@
+// What both hash tables say of the symbol table, and their checkers, for C.
+pub mod checks;
+pub mod lengths;
