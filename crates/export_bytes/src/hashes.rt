@@ -4,7 +4,7 @@ use export::answers::no_number;
 use export::answers::number_answer;
 use name_hash::NameHash;
 ghost use mathlib.Core.Path.{_≡_};
-ghost use Rattle.name_hash.specs.Hash.{hashOf, gnuHash, sysvHash};
+ghost use Rattle.name_hash.specs.Hash.{nameHash, gnuHash, sysvHash};
 ghost use Rattle.export_bytes.specs.Hashes.{hashAnswer};
 
 pub(crate) fn hash_answer(hash: NameHash) -> NumberAnswer
@@ -18,14 +18,14 @@ pub(crate) fn hash_answer(hash: NameHash) -> NumberAnswer
 
 #[no_mangle]
 pub extern "C" fn fetulombo_gnu_hash(name: &[u8]) -> NumberAnswer
-    ensures { λ r. ⌜ r ≡ hashAnswer (hashOf gnuHash (now (name .entry))) ⌝ }
+    ensures { λ r. ⌜ r ≡ hashAnswer (nameHash gnuHash (now (name .entry))) ⌝ }
 {
     hash_answer(name_hash::gnu_hash(name))
 }
 
 #[no_mangle]
 pub extern "C" fn fetulombo_sysv_hash(name: &[u8]) -> NumberAnswer
-    ensures { λ r. ⌜ r ≡ hashAnswer (hashOf sysvHash (now (name .entry))) ⌝ }
+    ensures { λ r. ⌜ r ≡ hashAnswer (nameHash sysvHash (now (name .entry))) ⌝ }
 {
     hash_answer(name_hash::sysv_hash(name))
 }

@@ -6,7 +6,7 @@ use Prim.Native.Nat.{ℕ}
 use mathlib.Core.List.{List, [], _∷_}
 use Rattle.version_records.specs.Outcome.{Outcome}
 use Rattle.version_records.specs.Outcome.Outcome.{stop}
-use Rattle.version_parse.specs.Parse.{Table, parsed}
+use Rattle.version_parse.specs.Parse.{ParsedStore, parsed}
 use Rattle.version_parse.specs.declared.parse.Parsed.{Parsed}
 use Rattle.export.specs.Answers.{number, noNumber}
 use Rattle.export.specs.Kinds.{isKind, orderOf, unlessUnknown}
@@ -16,6 +16,6 @@ abbrev pub parsedAnswer : Parsed → NumberAnswer
 parsedAnswer (Parsed.Highest index) = number (index .0)
 parsedAnswer (Parsed.Refused r) = noNumber r
 
-abbrev pub parsedBy : (order : ℕ) → (verdef verneed strings : List ℕ) → (n : ℕ) → Outcome Table
+abbrev pub parsedBy : (order : ℕ) → (verdef verneed strings : List ℕ) → (n : ℕ) → Outcome ParsedStore
 parsedBy order verdef verneed strings n =
     unlessUnknown stop (isKind order) (verdef ∷ verneed ∷ strings ∷ []) (parsed (orderOf order) verdef verneed strings n)

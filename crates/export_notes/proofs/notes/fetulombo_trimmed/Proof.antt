@@ -3,7 +3,8 @@ use mathlib.Core.Path.{_≡_, sym, ap, _∙_}
 use lib.Seq.{length-take-le}
 use borrow.Author.Needs.{needs}
 use borrow.Author.Tests.{lt-ltb, le-ltb}
-use Rattle.note_name.specs.Trim.{Part, trimmedLength}
+use Rattle.note_name.specs.LentPart.{Part}
+use Rattle.note_name.specs.Trim.{trimmedLength}
 use Rattle.note_name.proofs.Longest.{trimmed-longest}
 use Rattle.export.specs.Answers.{number}
 use Rattle.export_notes.proofs.notes.fetulombo_trimmed.Statement.{statement}
