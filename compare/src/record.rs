@@ -9,7 +9,7 @@ use crate::segments;
 use crate::strings::original_equals;
 use crate::symbols::size;
 use crate::versions::{Parts, made_up, numbers, original};
-use fetulombo::Order;
+use fetulombo::{Class, Order};
 use oracle::{NoteStep, PropertyStep};
 use std::path::Path;
 
@@ -48,6 +48,21 @@ pub fn padded(bytes: &[u8], length: usize) -> Vec<u8> {
     assert!(padded.len() <= length);
     padded.resize(length, 0);
     padded
+}
+
+/// Class and order stand in a record as in e_ident.
+pub fn class_number(class: Class) -> u8 {
+    match class {
+        Class::Elf32 => 1,
+        Class::Elf64 => 2,
+    }
+}
+
+pub fn order_number(order: Order) -> u8 {
+    match order {
+        Order::Little => 1,
+        Order::Big => 2,
+    }
 }
 
 /// 64 bytes: strings (their length in 1, then 32), offset in 4; refusal in 1, start in 4, length in
@@ -112,7 +127,7 @@ fn symbol(random: &mut Random) -> Vec<u8> {
     let found = oracle::symbol_at(wide, other, &symbols, index);
     let name = oracle::symbol_name(wide, other, &symbols, &strings, index);
 
-    let mut record = vec![wide.into(), other.into(), length as u8];
+    let mut record = vec![class_number(class), order_number(order), length as u8];
     record.extend(padded(&symbols, 80));
     record.extend(index.to_le_bytes());
     record.push(strings_length as u8);
@@ -150,7 +165,7 @@ fn note(random: &mut Random) -> Vec<u8> {
         if bytes.len() > 64 {
             continue;
         }
-        let mut record = vec![b'n', big(order).into(), align as u8, bytes.len() as u8];
+        let mut record = vec![b'n', order_number(order), align as u8, bytes.len() as u8];
         record.extend(padded(&bytes, 64));
         match oracle::notes(true, big(order), align, &bytes) {
             Err(number) => record.extend([REFUSED, number as u8]),
@@ -187,7 +202,7 @@ fn property(random: &mut Random) -> Vec<u8> {
         if descriptor.len() > 64 {
             continue;
         }
-        let mut record = vec![b'p', big(order).into(), is64(class).into()];
+        let mut record = vec![b'p', order_number(order), class_number(class)];
         record.push(descriptor.len() as u8);
         record.extend(padded(&descriptor, 64));
         let walk = oracle::gnu_properties(is64(class), big(order), 5, b"GNU", &descriptor);
@@ -257,7 +272,7 @@ fn version(random: &mut Random) -> Vec<u8> {
         if lists.iter().any(|(part, most)| part.len() > *most) {
             continue;
         }
-        let mut record = vec![big(order).into()];
+        let mut record = vec![order_number(order)];
         record.extend(lists.map(|(part, _)| part.len() as u8));
         for (part, most) in lists {
             record.extend(padded(part, most));
@@ -342,7 +357,7 @@ fn segment(random: &mut Random) -> Vec<u8> {
     let bytes = segments::record(class, &table, number);
     let found = oracle::segment_fields(wide, other, bytes);
 
-    let mut record = vec![wide.into(), other.into(), table.len() as u8];
+    let mut record = vec![class_number(class), order_number(order), table.len() as u8];
     record.extend(padded(&table, 112));
     record.extend(number.to_le_bytes());
     record.push(length as u8);

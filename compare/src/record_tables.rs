@@ -5,7 +5,7 @@
 use crate::inputs::{KINDS, Random, big, is64};
 use crate::lookups::{Asked, Kind, ask, original, rehashed, shift, their_versions};
 use crate::plain::{Found, Verdict, gnu_hash};
-use crate::record::padded;
+use crate::record::{class_number, order_number, padded};
 use crate::symbols::size;
 use crate::tables::{GnuShape, Symbols, damaged_words, gnu_table, made_up, sysv_table};
 use crate::versions::{Parts, put};
@@ -111,7 +111,7 @@ fn head(kind: Kind, made: &Symbols) -> Vec<u8> {
         Kind::Gnu => b'g',
         Kind::Sysv => b's',
     };
-    vec![kind, is64(made.class).into(), big(made.order).into()]
+    vec![kind, class_number(made.class), order_number(made.order)]
 }
 
 /// A part after its length in 1, in as many bytes as any such part may have.

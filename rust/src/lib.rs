@@ -169,8 +169,8 @@ impl Class {
 
     fn raw(self) -> u8 {
         match self {
-            Class::Elf32 => 0,
-            Class::Elf64 => 1,
+            Class::Elf32 => 1,
+            Class::Elf64 => 2,
         }
     }
 }
@@ -195,8 +195,8 @@ impl Order {
 
     fn raw(self) -> u8 {
         match self {
-            Order::Little => 0,
-            Order::Big => 1,
+            Order::Little => 1,
+            Order::Big => 2,
         }
     }
 }

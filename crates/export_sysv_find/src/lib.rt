@@ -1,14 +1,12 @@
 // The lookup in a SysV table, for C. Refused in this order: a part or a name that is too long; a number
 // that is no class or no order; as `sysv::find`.
-use endian::refusals::UNKNOWN_KIND;
 use export::kinds::are_kinds;
 use export::kinds::class_of;
 use export::kinds::order_of;
-use export::kinds::unless_long;
 use export::lookups::LookupAnswer;
 use export::lookups::lookup_answer;
+use export::lookups::unknown_lookup;
 use export_version_match::need_of;
-use lookup::Answer;
 use sysv::find::find;
 ghost use mathlib.Core.Path.{_≡_};
 ghost use Rattle.export_version_match.specs.Answers.{needOf};
@@ -49,10 +47,15 @@ pub extern "C" fn fetulombo_sysv_find(
         hash ⌝ }
 {
     if !are_kinds(class, order) {
-        let names = unless_long(name, unless_long(need_name, UNKNOWN_KIND));
-        let versions = unless_long(versyms, unless_long(version_strings, names));
-        let refusal = unless_long(table, unless_long(symbols, unless_long(strings, versions)));
-        return lookup_answer(Answer::Refused(refusal));
+        return unknown_lookup(
+            table,
+            symbols,
+            strings,
+            versyms,
+            version_strings,
+            name,
+            need_name,
+        );
     }
     lookup_answer(find(
         class_of(class),
