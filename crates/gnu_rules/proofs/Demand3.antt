@@ -198,6 +198,4 @@ demand-3 class order p most accepted asked short =
     (kept .base-high) (firstOf (wanted class order p asked) (hashed t)) refl)
 
 pub demand-3-last : Demand3Last
-demand-3-last class order p asked asked′ hash hash′ needed needed′ k probes probes′ need need′ found found′ =
-    let one = find-one class order p asked asked′ hash hash′ needed needed′ k probes probes′ need need′ found found′ in
-    (one .name, one .versionName, one .versionHash)
+demand-3-last class order p = find-one class order p

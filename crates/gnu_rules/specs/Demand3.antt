@@ -22,10 +22,9 @@ use Rattle.endian.specs.Refusals.{anyLong}
 use Rattle.endian.specs.Word.{wordAt}
 use Rattle.name_hash.specs.Hash.{gnuHash}
 use Rattle.symbol.specs.Table.{symbolsIn, symbolIndex}
-use Rattle.version_match.specs.declared.Need.{Need}
 use Rattle.lookup.specs.declared.Answer.{Answer}
 use Rattle.lookup.specs.declared.Answer.the-variants.{Found, Missing, Refused}
-use Rattle.lookup.specs.Matches.{Matches}
+use Rattle.lookup.specs.Matches.{Matches, OneAsked}
 use Rattle.lookup.specs.Pick.{upTo}
 use Rattle.lookup.specs.Wanted.{Parts, Asked, wanted}
 use Rattle.gnu_table.specs.declared.filter.Bloom.{Bloom}
@@ -91,9 +90,4 @@ Demand3Holds = (class : Class) (order : Order) (p : Parts) (most : ℕ)
 -- two lookups that each state a version and get the same symbol asked for one name and one version; in any table, accepted
 -- or not, and by any hashes
 abbrev pub Demand3Last : Type 0
-Demand3Last = (class : Class) (order : Order) (p : Parts) (asked asked′ : Asked)
-    (hash hash′ needed needed′ k probes probes′ : ℕ)
-    → asked .need ≡ Need.Hash needed → asked′ .need ≡ Need.Hash needed′
-    → gnuFind class order p asked hash ≡ Found (symbolIndex k) probes
-    → gnuFind class order p asked′ hash′ ≡ Found (symbolIndex k) probes′
-    → (asked .name ≡ asked′ .name) × (asked .needName ≡ asked′ .needName) × (needed ≡ needed′)
+Demand3Last = (class : Class) (order : Order) (p : Parts) → OneAsked (gnuFind class order p)

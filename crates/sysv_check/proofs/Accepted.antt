@@ -1,6 +1,7 @@
 -- A SysV table that the checker accepts keeps `Right` (specs/Accepted). Every match stands on the chain of the name's hash
 -- (T3), and that chain holds no other numbers than symbols of 1 to n - 1.
---     accepted    the theorem
+--     accepted     that theorem
+--     sysv-last    two lookups that state different versions never get one symbol
 -- Assumes nothing.
 use Prim.Native.Nat.{ℕ, suc, _%_, _≤_, _<_}
 use mathlib.Core.Path.{_≡_, refl, sym, ap, _∙_}
@@ -28,10 +29,11 @@ use Rattle.lookup.proofs.Distinct.{wanted-named, wanted-fits}
 use Rattle.sysv.specs.Table.{SysvTable, numbers, sysvLookup}
 use Rattle.sysv_header.specs.Header.{sysvFault}
 use Rattle.sysv.specs.Find.{sysvTable, sysvFind}
+use Rattle.sysv.proofs.Theorems.{find-one}
 use Rattle.sysv_check.specs.declared.table.Checked.{Checked}
 use Rattle.sysv_check.specs.Count.{times}
 use Rattle.sysv_check.specs.Rules.{firstGlobal, sysvTableCheck}
-use Rattle.sysv_check.specs.Accepted.{FirstMatch, sysvAnswer, Right, AcceptedHolds}
+use Rattle.sysv_check.specs.Accepted.{FirstMatch, sysvAnswer, Right, AcceptedHolds, SysvLast}
 use Rattle.sysv_check.specs.Check.{sysvCheck}
 use Rattle.sysv_check.proofs.Counting.{times-all, times-append, all-times}
 use Rattle.sysv_check.proofs.Ruled.{Ruled, rules}
@@ -177,3 +179,6 @@ module _ (class : Class) (order : Order) (p : Parts) (asked : Asked)
 
 pub accepted : AcceptedHolds
 accepted class order p asked good short = is-right class order p asked good short
+
+pub sysv-last : SysvLast
+sysv-last class order p = find-one class order p

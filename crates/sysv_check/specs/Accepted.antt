@@ -8,6 +8,7 @@
 --     NoMatch          no symbol 1 to n - 1 matches
 --     Right            the sentence, of that answer
 --     AcceptedHolds    the theorem: an accepted table keeps it; `accepted` in proofs/Accepted proves it
+--     SysvLast         demand 3's last sentence for SysV tables, as a theorem: `sysv-last` there proves it
 -- Assumes nothing.
 use Prim.Native.Nat.{ℕ, suc, _+_, _*_, _%_, _≤_, _<_}
 use mathlib.Core.Path.{_≡_}
@@ -23,7 +24,7 @@ use Rattle.symbol.specs.Table.{symbolsIn, symbolIndex}
 use Rattle.name_hash.specs.Hash.{sysvHash}
 use Rattle.lookup.specs.declared.Answer.{Answer}
 use Rattle.lookup.specs.declared.Answer.the-variants.{Found, Missing, Refused}
-use Rattle.lookup.specs.Matches.{Matches}
+use Rattle.lookup.specs.Matches.{Matches, OneAsked}
 use Rattle.lookup.specs.Wanted.{Parts, Asked}
 use Rattle.sysv_header.specs.Header.{bucketCountOf, chainCountOf, chainsAt}
 use Rattle.sysv.specs.Find.{sysvFind}
@@ -75,3 +76,8 @@ AcceptedHolds = (class : Class) (order : Order) (p : Parts) (asked : Asked)
     → sysvCheck class order (p .table) (p .symbols) (p .strings) ≡ Accepted
     → anyLong (p .versyms ∷ p .versionStrings ∷ asked .name ∷ asked .needName ∷ []) ≡ false
     → Right class order p asked
+
+-- two lookups that each state a version and get the same symbol asked for one name and one version; in any table, accepted
+-- or not, and by any hashes
+abbrev pub SysvLast : Type 0
+SysvLast = (class : Class) (order : Order) (p : Parts) → OneAsked (sysvFind class order p)
