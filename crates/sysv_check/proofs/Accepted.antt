@@ -33,7 +33,7 @@ use Rattle.sysv.proofs.Theorems.{find-one}
 use Rattle.sysv_check.specs.declared.table.Checked.{Checked}
 use Rattle.sysv_check.specs.Count.{times}
 use Rattle.sysv_check.specs.Rules.{firstGlobal, sysvTableCheck}
-use Rattle.sysv_check.specs.Accepted.{FirstMatch, sysvAnswer, Right, AcceptedHolds, SysvLast}
+use Rattle.sysv_check.specs.Accepted.{FirstMatch, answerByName, Right, AcceptedHolds, SysvLast}
 use Rattle.sysv_check.specs.Check.{sysvCheck}
 use Rattle.sysv_check.proofs.Counting.{times-all, times-append, all-times}
 use Rattle.sysv_check.proofs.Ruled.{Ruled, rules}
@@ -96,7 +96,7 @@ module _ (class : Class) (order : Order) (p : Parts) (asked : Asked)
       both-short (ltb limit (length (p .table))) (ltb limit (length (p .symbols))) (ltb limit (length (p .strings))) _
       (past .0) short
 
-  walked : sysvAnswer class order p asked ≡ walk match (numbers t home)
+  walked : answerByName class order p asked ≡ walk match (numbers t home)
   unfolding sysvFind sysvLookup
   walked =
       let buckets = ruled .shaped .buckets in
@@ -123,7 +123,7 @@ module _ (class : Class) (order : Order) (p : Parts) (asked : Asked)
       let there = stands t firstGlobal ruled (asked .name) i lo hi (m .name) in
       no-match i (times-all (λ j. match j ≡ false) i (numbers t home) none-there (omega arith)) m
 
-  first-match : (i n : ℕ) → sysvAnswer class order p asked ≡ Found (symbolIndex i) n
+  first-match : (i n : ℕ) → answerByName class order p asked ≡ Found (symbolIndex i) n
       → (firstGlobal ≤ i) × (i < t .count) × (m : FirstMatch class order p asked (numbers t home) i)
       × (n ≡ suc (length (m .before)))
   first-match i n h =
@@ -146,15 +146,15 @@ module _ (class : Class) (order : Order) (p : Parts) (asked : Asked)
 
   some-found : (i : ℕ) → firstGlobal ≤ i → i < t .count → Matches class order p asked i
       → (j : ℕ) × (m : FirstMatch class order p asked (numbers t home) j)
-      × (sysvAnswer class order p asked ≡ Found (symbolIndex j) (suc (length (m .before))))
+      × (answerByName class order p asked ≡ Found (symbolIndex j) (suc (length (m .before))))
   some-found i lo hi m = by (firstOf match (numbers t home)) refl
     where
       by : (o : Option ℕ) → firstOf match (numbers t home) ≡ o
           → (j : ℕ) × (f : FirstMatch class order p asked (numbers t home) j)
-          × (sysvAnswer class order p asked ≡ Found (symbolIndex j) (suc (length (f .before))))
+          × (answerByName class order p asked ≡ Found (symbolIndex j) (suc (length (f .before))))
       by none e = absurd (missed (none-firstOf match (numbers t home) e) i lo hi m)
       by (some j) e =
-          let h : sysvAnswer class order p asked ≡ Found (symbolIndex j) (length (upTo match (numbers t home))) =
+          let h : answerByName class order p asked ≡ Found (symbolIndex j) (length (upTo match (numbers t home))) =
           walked ∙ ap (λ (o : Option ℕ). answerAfter o (length (upTo match (numbers t home)))) e in
           let f = first-match j (length (upTo match (numbers t home))) h in
           (j, f .2, h ∙ ap (Found (symbolIndex j)) (f .3))

@@ -4,7 +4,7 @@
 --     Chain            the numbers of a chain that comes to 0, from a number on, without a bound on its steps
 --     OnItsChain       those of the chain of the name's hash
 --     FirstMatch       the first match on a list
---     sysvAnswer       the lookup with the name's own hash
+--     answerByName     the lookup with the name's own hash
 --     NoMatch          no symbol 1 to n - 1 matches
 --     Right            the sentence, of that answer
 --     AcceptedHolds    the theorem: an accepted table keeps it; `accepted` in proofs/Accepted proves it
@@ -50,8 +50,8 @@ module _ (class : Class) (order : Order) (p : Parts) (asked : Asked) where
     pub none-before : (j : ℕ) → 0 < times j before → ¬ Matches class order p asked j
     pub matches : Matches class order p asked i
 
-  abbrev pub sysvAnswer : Answer
-  sysvAnswer = sysvFind class order p asked (sysvHash (asked .name))
+  abbrev pub answerByName : Answer
+  answerByName = sysvFind class order p asked (sysvHash (asked .name))
 
   abbrev pub NoMatch : Type 0
   NoMatch = (i : ℕ) → firstGlobal ≤ i → i < symbolsIn class (p .symbols) → ¬ Matches class order p asked i
@@ -59,17 +59,17 @@ module _ (class : Class) (order : Order) (p : Parts) (asked : Asked) where
   pub record Right : Type 0 where
     pub chain : List ℕ
     pub on-its-chain : OnItsChain chain
-    pub not-refused : (r : Refusal) → ¬ (sysvAnswer ≡ Refused r)
+    pub not-refused : (r : Refusal) → ¬ (answerByName ≡ Refused r)
     -- nothing exactly if no symbol 1 to n - 1 matches
-    pub nothing-then : (probes : ℕ) → sysvAnswer ≡ Missing probes → NoMatch
-    pub nothing-if : NoMatch → sysvAnswer ≡ Missing (length chain)
+    pub nothing-then : (probes : ℕ) → answerByName ≡ Missing probes → NoMatch
+    pub nothing-if : NoMatch → answerByName ≡ Missing (length chain)
     -- else the first match on the chain, after as many probes as numbers up to it
-    pub found-then : (i probes : ℕ) → sysvAnswer ≡ Found (symbolIndex i) probes
+    pub found-then : (i probes : ℕ) → answerByName ≡ Found (symbolIndex i) probes
         → (firstGlobal ≤ i) × (i < symbolsIn class (p .symbols))
         × (m : FirstMatch chain i) × (probes ≡ suc (length (m .before)))
-    pub found-first : (i : ℕ) (m : FirstMatch chain i) → sysvAnswer ≡ Found (symbolIndex i) (suc (length (m .before)))
+    pub found-first : (i : ℕ) (m : FirstMatch chain i) → answerByName ≡ Found (symbolIndex i) (suc (length (m .before)))
     pub found-if : (i : ℕ) → firstGlobal ≤ i → i < symbolsIn class (p .symbols) → Matches class order p asked i
-        → (j : ℕ) × (m : FirstMatch chain j) × (sysvAnswer ≡ Found (symbolIndex j) (suc (length (m .before))))
+        → (j : ℕ) × (m : FirstMatch chain j) × (answerByName ≡ Found (symbolIndex j) (suc (length (m .before))))
 
 abbrev pub AcceptedHolds : Type 0
 AcceptedHolds = (class : Class) (order : Order) (p : Parts) (asked : Asked)
