@@ -13,13 +13,13 @@ use Rattle.endian.specs.declared.kinds.Class.{Class}
 use Rattle.endian.specs.declared.kinds.Order.{Order}
 use Rattle.endian.specs.declared.refusals.Refusal.{Refusal}
 use Rattle.endian.specs.Refusals.{anyLong, tooLong, unlessRefused}
-use Rattle.version_match.specs.declared.Need.{Need}
 use Rattle.version_match.specs.Match.{matching}
 use Rattle.lookup.specs.declared.Answer.{Answer}
 use Rattle.lookup.specs.declared.Answer.the-variants.{Found, Missing, Refused}
+use Rattle.lookup.specs.Matches.{OneAsked}
 use Rattle.lookup.specs.Wanted.{Parts, Asked, allParts, nameOf, wanted}
 use Rattle.lookup.proofs.Picking.{and-right}
-use Rattle.lookup.proofs.Distinct.{Same, wanted-named, wanted-fits, wanted-one, walk-wanted}
+use Rattle.lookup.proofs.Distinct.{wanted-named, wanted-fits, wanted-one, walk-wanted}
 use Rattle.gnu_table.specs.declared.filter.Bloom.{Bloom}
 use Rattle.gnu_table.specs.declared.filter.Bloom.the-variants.{Passes, Stops, Refuses}
 use Rattle.gnu_table.specs.Table.{GnuTable, valueOf, sameButLow, bloomFilter}
@@ -68,11 +68,7 @@ module _ (class : Class) (order : Order) (p : Parts) where
     pub find-fits : matching order (p .versyms) (p .store) (p .versionStrings) (symbolIndex i) (asked .need) (asked .needName) ≡ true
     find-fits = wanted-fits class order p asked i find-wanted
 
-  pub find-one : (asked asked′ : Asked) (hash hash′ needed needed′ i probes probes′ : ℕ)
-      → asked .need ≡ Need.Hash needed → asked′ .need ≡ Need.Hash needed′
-      → gnuFind class order p asked hash ≡ Found (symbolIndex i) probes
-      → gnuFind class order p asked′ hash′ ≡ Found (symbolIndex i) probes′
-      → Same asked asked′ needed needed′
+  pub find-one : OneAsked (gnuFind class order p)
   find-one asked asked′ hash hash′ needed needed′ i probes probes′ need need′ found found′ =
       wanted-one class order p asked asked′ needed needed′ i need need′
       (find-wanted asked hash i probes found) (find-wanted asked′ hash′ i probes′ found′)

@@ -32,7 +32,7 @@ use Rattle.gnu.specs.Find.{gnuTable, gnuFind}
 use Rattle.gnu.proofs.Theorems.{find-one}
 use Rattle.gnu_rules.specs.declared.Checked.the-variants.{Accepted, Refused as Checked·Refused}
 use Rattle.gnu_rules.specs.Rules.{gnuTableCheck, gnuCheck}
-use Rattle.gnu_rules.specs.Demand3.{probesOf, symbolBase, readBy, LowestMatch, walked, Demand3, Demand3Holds, Demand3Last}
+use Rattle.gnu_rules.specs.Demand3.{probesOf, symbolBase, pairsRead, LowestMatch, walked, Demand3, Demand3Holds, Demand3Last}
 use Rattle.gnu_rules.proofs.Kept.{rules, accepted-longest}
 use Rattle.gnu_rules.proofs.Finds.{finds-lowest}
 
@@ -108,7 +108,7 @@ module _ (class : Class) (order : Order) (p : Parts) (asked : Asked) where
       pairs = gnuChain t (startOf t h)
 
       by : (f : Bloom) → probesOf (filtered f (walkAt t h want (startOf t h)))
-          ≡ length (readBy f (startOf t h) (upTo tested pairs))
+          ≡ length (pairsRead f (startOf t h) (upTo tested pairs))
       by Stops = refl
       by Refuses = refl
       by Passes =
@@ -198,6 +198,4 @@ demand-3 class order p most accepted asked short =
     (kept .base-high) (firstOf (wanted class order p asked) (hashed t)) refl)
 
 pub demand-3-last : Demand3Last
-demand-3-last class order p asked asked′ hash hash′ needed needed′ k probes probes′ need need′ found found′ =
-    let one = find-one class order p asked asked′ hash hash′ needed needed′ k probes probes′ need need′ found found′ in
-    (one .name, one .versionName, one .versionHash)
+demand-3-last class order p = find-one class order p

@@ -1,12 +1,12 @@
 -- Demand 3, of the bytes: what a table that the GNU checker accepts promises of every lookup in it, and what two lookups
 -- promise in any table.
---     probesOf          how many probes an answer says were made
---     symbolBase        the header's second word
---     LowestMatch       a symbol is the lowest match, from symbol_base on and below n
---     readBy, walked    the pairs of document 01's walk
---     Demand3           the demand's sentence, of an answer and the longest chain
---     Demand3Holds      the theorem: in an accepted table every lookup keeps it; `demand-3` in proofs/Demand3 proves it
---     Demand3Last       the demand's last sentence, as a theorem: `demand-3-last` there proves it
+--     probesOf             how many probes an answer says were made
+--     symbolBase           the header's second word
+--     LowestMatch          a symbol is the lowest match, from symbol_base on and below n
+--     pairsRead, walked    the pairs of document 01's walk
+--     Demand3              the demand's sentence, of an answer and the longest chain
+--     Demand3Holds         the theorem: in an accepted table every lookup keeps it; `demand-3` in proofs/Demand3 proves it
+--     Demand3Last          the demand's last sentence, as a theorem: `demand-3-last` there proves it
 -- Assumes nothing.
 use Prim.Native.Nat.{ℕ, _≤_, _<_}
 use mathlib.Core.Path.{_≡_}
@@ -22,10 +22,9 @@ use Rattle.endian.specs.Refusals.{anyLong}
 use Rattle.endian.specs.Word.{wordAt}
 use Rattle.name_hash.specs.Hash.{gnuHash}
 use Rattle.symbol.specs.Table.{symbolsIn, symbolIndex}
-use Rattle.version_match.specs.declared.Need.{Need}
 use Rattle.lookup.specs.declared.Answer.{Answer}
 use Rattle.lookup.specs.declared.Answer.the-variants.{Found, Missing, Refused}
-use Rattle.lookup.specs.Matches.{Matches}
+use Rattle.lookup.specs.Matches.{Matches, OneAsked}
 use Rattle.lookup.specs.Pick.{upTo}
 use Rattle.lookup.specs.Wanted.{Parts, Asked, wanted}
 use Rattle.gnu_table.specs.declared.filter.Bloom.{Bloom}
@@ -45,10 +44,10 @@ abbrev pub symbolBase : Order → Parts → ℕ
 symbolBase order p = wordAt order 4 (p .table) 4
 
 -- pairs that are read: all of them where the filter lets the hash pass and the walk starts at a symbol, else none
-abbrev pub readBy : Bloom → (start : ℕ) → List ℕ → List ℕ
-readBy Passes start pairs = cond (eqb start 0) [] pairs
-readBy Stops start pairs = []
-readBy Refuses start pairs = []
+abbrev pub pairsRead : Bloom → (start : ℕ) → List ℕ → List ℕ
+pairsRead Passes start pairs = cond (eqb start 0) [] pairs
+pairsRead Stops start pairs = []
+pairsRead Refuses start pairs = []
 
 module _ (class : Class) (order : Order) (p : Parts) (asked : Asked) where
   pub record LowestMatch (k : ℕ) : Type 0 where
@@ -63,7 +62,7 @@ module _ (class : Class) (order : Order) (p : Parts) (asked : Asked) where
   walked =
       let t = gnuTable class order p in
       let h = gnuHash (asked .name) in
-      readBy (bloomFilter t h) (startOf t h)
+      pairsRead (bloomFilter t h) (startOf t h)
       (upTo (λ i. sameButLow (valueOf t i) h && wanted class order p asked i) (gnuChain t (startOf t h)))
 
   pub record Demand3 (most : ℕ) (answer : Answer) : Type 0 where
@@ -91,9 +90,4 @@ Demand3Holds = (class : Class) (order : Order) (p : Parts) (most : ℕ)
 -- two lookups that each state a version and get the same symbol asked for one name and one version; in any table, accepted
 -- or not, and by any hashes
 abbrev pub Demand3Last : Type 0
-Demand3Last = (class : Class) (order : Order) (p : Parts) (asked asked′ : Asked)
-    (hash hash′ needed needed′ k probes probes′ : ℕ)
-    → asked .need ≡ Need.Hash needed → asked′ .need ≡ Need.Hash needed′
-    → gnuFind class order p asked hash ≡ Found (symbolIndex k) probes
-    → gnuFind class order p asked′ hash′ ≡ Found (symbolIndex k) probes′
-    → (asked .name ≡ asked′ .name) × (asked .needName ≡ asked′ .needName) × (needed ≡ needed′)
+Demand3Last = (class : Class) (order : Order) (p : Parts) → OneAsked (gnuFind class order p)

@@ -44,30 +44,23 @@ module _ (class : Class) (order : Order) (p : Parts) (asked : Asked) (i : ℕ) w
   unfolding wantedIn
   wanted-fits h = and-right (isNamed (asked .name) nameHere) fitsHere h
 
--- the name and the version, with its name and its hash
-pub record Same (asked asked′ : Asked) (hash hash′ : ℕ) : Type 0 where
-  pub name : asked .name ≡ asked′ .name
-  pub versionName : asked .needName ≡ asked′ .needName
-  pub versionHash : hash ≡ hash′
-
 some-one : {A : Type 0} (a b : A) → some a ≡ some b → a ≡ b
 some-one a b e = cc
 
 module _ (class : Class) (order : Order) (p : Parts) (asked asked′ : Asked) (hash hash′ : ℕ) (i : ℕ) where
   pub wanted-one : asked .need ≡ Need.Hash hash → asked′ .need ≡ Need.Hash hash′
       → wanted class order p asked i ≡ true → wanted class order p asked′ i ≡ true
-      → Same asked asked′ hash hash′
+      → (asked .name ≡ asked′ .name) × (asked .needName ≡ asked′ .needName) × (hash ≡ hash′)
   wanted-one need need′ h h′ =
       let fits = rw need at (wanted-fits class order p asked i h) in
       let fits′ = rw need′ at (wanted-fits class order p asked′ i h′) in
       let one = match-one order (p .versyms) (p .store) (p .versionStrings) (symbolIndex i) hash hash′ (asked .needName)
-      (asked′ .needName) fits fits′ in
-      record {
-        name = some-one (asked .name) (asked′ .name)
-            (sym (wanted-named class order p asked i h) ∙ wanted-named class order p asked′ i h′);
-        versionName = one .1;
-        versionHash = one .0;
-      }
+      (asked′ .needName) fits fits′ in (
+        some-one (asked .name) (asked′ .name)
+            (sym (wanted-named class order p asked i h) ∙ wanted-named class order p asked′ i h′),
+        one .1,
+        one .0,
+      )
 
 found-one : (i j probes probes′ : ℕ) → Found (symbolIndex i) probes ≡ Found (symbolIndex j) probes′ → i ≡ j
 found-one i j probes probes′ e =

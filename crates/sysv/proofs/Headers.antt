@@ -53,12 +53,12 @@ module _ (class : Class) (order : Order) (p : Parts) (asked : Asked) (hash : ℕ
 module _ (class : Class) (order : Order) (table symbols strings : List ℕ) (hash : ℕ) (match : ℕ → Bool) (header : Header)
     (own : header ≡ headerOf order table) where
   pub lookup-none : header .«bucket_count» ≡ 0
-      → sysvLookup (sysvTableOf order table class symbols strings) hash match ≡ Answer.Missing 0
+      → sysvLookup (sysvTableOf class order table symbols strings) hash match ≡ Answer.Missing 0
   unfolding sysvLookup
   lookup-none empty = let e = rw own at empty in rw (eq-eqb _ _ e)
 
   pub lookup-walk : ¬ (header .«bucket_count» ≡ 0)
-      → sysvLookup (sysvTableOf order table class symbols strings) hash match
+      → sysvLookup (sysvTableOf class order table symbols strings) hash match
       ≡ walk match
       (visited (header .«chain_count»)
       (λ i. wordAt order 4 table (8 + header .«bucket_count» * 4 + i * 4)) (header .«chain_count»)

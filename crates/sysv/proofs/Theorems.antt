@@ -13,11 +13,11 @@ use Rattle.endian.specs.declared.kinds.Class.{Class}
 use Rattle.endian.specs.declared.kinds.Order.{Order}
 use Rattle.endian.specs.declared.refusals.Refusal.{Refusal}
 use Rattle.endian.specs.Refusals.{anyLong, tooLong, unlessRefused}
-use Rattle.version_match.specs.declared.Need.{Need}
 use Rattle.version_match.specs.Match.{matching}
 use Rattle.lookup.specs.declared.Answer.the-variants.{Found, Missing, Refused}
+use Rattle.lookup.specs.Matches.{OneAsked}
 use Rattle.lookup.specs.Wanted.{Parts, Asked, allParts, nameOf, wanted, walk}
-use Rattle.lookup.proofs.Distinct.{Same, wanted-named, wanted-fits, wanted-one, walk-wanted}
+use Rattle.lookup.proofs.Distinct.{wanted-named, wanted-fits, wanted-one, walk-wanted}
 use Rattle.sysv_header.specs.Header.{sysvFault}
 use Rattle.sysv.specs.Table.{SysvTable, numbers, sysvLookup}
 use Rattle.sysv.specs.Find.{sysvTable, sysvFind}
@@ -51,11 +51,7 @@ module _ (class : Class) (order : Order) (p : Parts) where
         × (matching order (p .versyms) (p .store) (p .versionStrings) (symbolIndex i) (asked .need) (asked .needName) ≡ true)
     find-bound = (wanted-named class order p asked i find-wanted, wanted-fits class order p asked i find-wanted)
 
-  pub find-one : (asked asked′ : Asked) (hash hash′ version version′ i probes probes′ : ℕ)
-      → asked .need ≡ Need.Hash version → asked′ .need ≡ Need.Hash version′
-      → sysvFind class order p asked hash ≡ Found (symbolIndex i) probes
-      → sysvFind class order p asked′ hash′ ≡ Found (symbolIndex i) probes′
-      → Same asked asked′ version version′
-  find-one asked asked′ hash hash′ version version′ i probes probes′ need need′ found found′ =
-      wanted-one class order p asked asked′ version version′ i need need′
+  pub find-one : OneAsked (sysvFind class order p)
+  find-one asked asked′ hash hash′ needed needed′ i probes probes′ need need′ found found′ =
+      wanted-one class order p asked asked′ needed needed′ i need need′
       (find-wanted asked hash i probes found) (find-wanted asked′ hash′ i probes′ found′)

@@ -12,7 +12,7 @@ use Rattle.sysv.specs.Table.{SysvTable, sysvLookup}
 use Rattle.sysv.specs.Layout.{sysvTableOf}
 
 abbrev pub sysvTable : Class → Order → Parts → SysvTable
-sysvTable class order p = sysvTableOf order (p .table) class (p .symbols) (p .strings)
+sysvTable class order p = sysvTableOf class order (p .table) (p .symbols) (p .strings)
 
 unfoldable pub sysvFind : Class → Order → Parts → Asked → (hash : ℕ) → Answer
 sysvFind class order p asked hash =

@@ -9,12 +9,12 @@ use Rattle.lookup.specs.Wanted.{nameOf}
 use Rattle.sysv_header.specs.Header.{bucketCountOf, chainCountOf, chainsAt}
 use Rattle.sysv.specs.Table.{SysvTable}
 
-abbrev pub sysvTableOf : Order → (bytes : List ℕ) → Class → (symbols strings : List ℕ) → SysvTable
-sysvTableOf order bytes class symbols strings = record {
-  bucketCount = bucketCountOf order bytes;
-  chainCount = chainCountOf order bytes;
-  bucket = λ b. wordAt order 4 bytes (8 + b * 4);
-  chain = λ i. wordAt order 4 bytes (chainsAt order bytes + i * 4);
+abbrev pub sysvTableOf : Class → Order → (table symbols strings : List ℕ) → SysvTable
+sysvTableOf class order table symbols strings = record {
+  bucketCount = bucketCountOf order table;
+  chainCount = chainCountOf order table;
+  bucket = λ b. wordAt order 4 table (8 + b * 4);
+  chain = λ i. wordAt order 4 table (chainsAt order table + i * 4);
   count = symbolsIn class symbols;
   name = nameOf class order symbols strings;
 }

@@ -129,7 +129,7 @@ fn lookup_at(
 ) -> Answer
     requires { ⌜ header ≡ headerOf order (now table) ⌝ }
     ensures { λ r. ⌜ r
-        ≡ sysvLookup (sysvTableOf order (now (table .entry)) class (now (symbols .entry)) (now (strings .entry))) hash
+        ≡ sysvLookup (sysvTableOf class order (now (table .entry)) (now (symbols .entry)) (now (strings .entry))) hash
         (wantedIn class order (now (symbols .entry)) (now (strings .entry)) (now (versyms .entry)) (now (store .entry))
         (now («version_strings» .entry)) (record { name = now (name .entry); need = need; needName = now («need_name» .entry) })) ⌝ }
 {

@@ -1,6 +1,7 @@
 -- A SysV table that the checker accepts keeps `Right` (specs/Accepted). Every match stands on the chain of the name's hash
 -- (T3), and that chain holds no other numbers than symbols of 1 to n - 1.
---     accepted    the theorem
+--     accepted     that theorem
+--     sysv-last    two lookups that state different versions never get one symbol
 -- Assumes nothing.
 use Prim.Native.Nat.{ℕ, suc, _%_, _≤_, _<_}
 use mathlib.Core.Path.{_≡_, refl, sym, ap, _∙_}
@@ -28,10 +29,11 @@ use Rattle.lookup.proofs.Distinct.{wanted-named, wanted-fits}
 use Rattle.sysv.specs.Table.{SysvTable, numbers, sysvLookup}
 use Rattle.sysv_header.specs.Header.{sysvFault}
 use Rattle.sysv.specs.Find.{sysvTable, sysvFind}
+use Rattle.sysv.proofs.Theorems.{find-one}
 use Rattle.sysv_check.specs.declared.table.Checked.{Checked}
 use Rattle.sysv_check.specs.Count.{times}
 use Rattle.sysv_check.specs.Rules.{firstGlobal, sysvTableCheck}
-use Rattle.sysv_check.specs.Accepted.{FirstMatch, sysvAnswer, Right, AcceptedHolds}
+use Rattle.sysv_check.specs.Accepted.{FirstMatch, answerByName, Right, AcceptedHolds, SysvLast}
 use Rattle.sysv_check.specs.Check.{sysvCheck}
 use Rattle.sysv_check.proofs.Counting.{times-all, times-append, all-times}
 use Rattle.sysv_check.proofs.Ruled.{Ruled, rules}
@@ -94,7 +96,7 @@ module _ (class : Class) (order : Order) (p : Parts) (asked : Asked)
       both-short (ltb limit (length (p .table))) (ltb limit (length (p .symbols))) (ltb limit (length (p .strings))) _
       (past .0) short
 
-  walked : sysvAnswer class order p asked ≡ walk match (numbers t home)
+  walked : answerByName class order p asked ≡ walk match (numbers t home)
   unfolding sysvFind sysvLookup
   walked =
       let buckets = ruled .shaped .buckets in
@@ -121,7 +123,7 @@ module _ (class : Class) (order : Order) (p : Parts) (asked : Asked)
       let there = stands t firstGlobal ruled (asked .name) i lo hi (m .name) in
       no-match i (times-all (λ j. match j ≡ false) i (numbers t home) none-there (omega arith)) m
 
-  first-match : (i n : ℕ) → sysvAnswer class order p asked ≡ Found (symbolIndex i) n
+  first-match : (i n : ℕ) → answerByName class order p asked ≡ Found (symbolIndex i) n
       → (firstGlobal ≤ i) × (i < t .count) × (m : FirstMatch class order p asked (numbers t home) i)
       × (n ≡ suc (length (m .before)))
   first-match i n h =
@@ -144,15 +146,15 @@ module _ (class : Class) (order : Order) (p : Parts) (asked : Asked)
 
   some-found : (i : ℕ) → firstGlobal ≤ i → i < t .count → Matches class order p asked i
       → (j : ℕ) × (m : FirstMatch class order p asked (numbers t home) j)
-      × (sysvAnswer class order p asked ≡ Found (symbolIndex j) (suc (length (m .before))))
+      × (answerByName class order p asked ≡ Found (symbolIndex j) (suc (length (m .before))))
   some-found i lo hi m = by (firstOf match (numbers t home)) refl
     where
       by : (o : Option ℕ) → firstOf match (numbers t home) ≡ o
           → (j : ℕ) × (f : FirstMatch class order p asked (numbers t home) j)
-          × (sysvAnswer class order p asked ≡ Found (symbolIndex j) (suc (length (f .before))))
+          × (answerByName class order p asked ≡ Found (symbolIndex j) (suc (length (f .before))))
       by none e = absurd (missed (none-firstOf match (numbers t home) e) i lo hi m)
       by (some j) e =
-          let h : sysvAnswer class order p asked ≡ Found (symbolIndex j) (length (upTo match (numbers t home))) =
+          let h : answerByName class order p asked ≡ Found (symbolIndex j) (length (upTo match (numbers t home))) =
           walked ∙ ap (λ (o : Option ℕ). answerAfter o (length (upTo match (numbers t home)))) e in
           let f = first-match j (length (upTo match (numbers t home))) h in
           (j, f .2, h ∙ ap (Found (symbolIndex j)) (f .3))
@@ -177,3 +179,6 @@ module _ (class : Class) (order : Order) (p : Parts) (asked : Asked)
 
 pub accepted : AcceptedHolds
 accepted class order p asked good short = is-right class order p asked good short
+
+pub sysv-last : SysvLast
+sysv-last class order p = find-one class order p

@@ -1,7 +1,5 @@
--- T3 in plain words, without a bound on steps: each chain is a list of numbers that comes to 0, and in that of bucket b
--- number i stands once, if it is a symbol from low on with a hash of that bucket, and else not.
---     Holds                   that, of the chain of a bucket
---     t3-means, means-t3      T3 is that of every bucket
+-- T3 is what specs/Meaning says.
+--     t3-is    the theorem: both ways
 -- Assumes nothing.
 use mathlib.Core.Path.{_≡_, _∙_}
 use mathlib.Core.Bool.{true}
@@ -15,20 +13,13 @@ use Rattle.lookup.proofs.Picking.{all-from, by-test}
 use Rattle.sysv.specs.Table.{SysvTable, numbers}
 use Rattle.sysv_check.specs.Count.{times}
 use Rattle.sysv_check.specs.Rules.{sysvBucketOf, right, t3, t3At}
-use Rattle.sysv_check.specs.Accepted.{Chain}
+use Rattle.sysv_check.specs.Meaning.{Holds, T3Means}
 use Rattle.sysv_check.proofs.Counting.{all-every}
 use Rattle.sysv_check.proofs.Chained.{chain-whole}
 use Rattle.sysv_check.proofs.Ruled.{placed}
 
 module _ (t : SysvTable) (low : ℕ) where
-  pub record Holds (b : ℕ) : Type 0 where
-    pub list : List ℕ
-    pub comes-to-zero : Chain (t .chainCount) (t .chain) (t .bucket b) list
-    pub once : (i : ℕ) → low ≤ i → i < t .count → sysvBucketOf t i ≡ b → times i list ≡ 1
-    pub no-other : (i : ℕ) → low ≤ i → i < t .count → ¬ (sysvBucketOf t i ≡ b) → times i list ≡ 0
-    pub none-lower : (i : ℕ) → 1 ≤ i → i < low → times i list ≡ 0
-
-  pub t3-means : 1 ≤ low → low ≤ t .count → t3 t low ≡ true → (b : ℕ) → b < t .bucketCount → Holds b
+  t3-means : 1 ≤ low → low ≤ t .count → t3 t low ≡ true → (b : ℕ) → b < t .bucketCount → Holds t low b
   t3-means one-low high h b hb =
       let p = placed t low h b hb in
       record {
@@ -48,7 +39,7 @@ module _ (t : SysvTable) (low : ℕ) where
       (λ e. rw (l, e) (other (leb-true low i l) (eqb-false (sysvBucketOf t i) b e))))
       (λ l. rw l (lower (leb-false low i l)))
 
-  pub means-t3 : ((b : ℕ) → b < t .bucketCount → Holds b) → t3 t low ≡ true
+  means-t3 : ((b : ℕ) → b < t .bucketCount → Holds t low b) → t3 t low ≡ true
   means-t3 holds =
       all-every (t3At t low) (from 0 (t .bucketCount))
       (all-from (λ b. t3At t low b ≡ true) 0 (t .bucketCount) (λ b lo hi.
@@ -59,3 +50,6 @@ module _ (t : SysvTable) (low : ℕ) where
       (all-from _ 1 (t .count - 1) (λ i lo' hi'. eq-eqb (times i (numbers t b)) (right t low b i)
       (rw (whole .1) (right-is (c .list) b i
       (λ l e. c .once i l (omega arith) e) (λ l ne. c .no-other i l (omega arith) ne) (λ l. c .none-lower i lo' l))))))))
+
+pub t3-is : T3Means
+t3-is t low one-low high = (t3-means t low one-low high, means-t3 t low)

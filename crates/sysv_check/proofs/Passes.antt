@@ -49,7 +49,7 @@ shaped-facts buckets chains count low h =
 module _ (class : Class) (order : Order) (table symbols strings : List ℕ) (low : ℕ) (header : Header) (count : ℕ)
     (own : header ≡ headerOf order table) (many : count ≡ symbolsIn class symbols) where
   abbrev whole : SysvTable
-  whole = sysvTableOf order table class symbols strings
+  whole = sysvTableOf class order table symbols strings
 
   abbrev shapes : Bool
   shapes = t1 (header .«bucket_count») (header .«chain_count») count low
@@ -104,7 +104,7 @@ module _ (class : Class) (order : Order) (table symbols strings : List ℕ) wher
   pub check-from : sysvCheck class order table symbols strings
       ≡ cond (ltb limit (length strings)) (Checked.Refused tooLong)
       (checkFrom (symbolCount class symbols) (headerAt order table)
-      (sysvTableCheck (sysvTableOf order table class symbols strings) firstGlobal))
+      (sysvTableCheck (sysvTableOf class order table symbols strings) firstGlobal))
   unfolding sysvCheck headerAt
   check-from =
       by (ltb limit (length table)) (ltb limit (length symbols)) (ltb limit (length strings)) (sysvFault order table) _

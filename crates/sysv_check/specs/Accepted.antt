@@ -4,10 +4,11 @@
 --     Chain            the numbers of a chain that comes to 0, from a number on, without a bound on its steps
 --     OnItsChain       those of the chain of the name's hash
 --     FirstMatch       the first match on a list
---     sysvAnswer       the lookup with the name's own hash
+--     answerByName     the lookup with the name's own hash
 --     NoMatch          no symbol 1 to n - 1 matches
 --     Right            the sentence, of that answer
 --     AcceptedHolds    the theorem: an accepted table keeps it; `accepted` in proofs/Accepted proves it
+--     SysvLast         demand 3's last sentence for SysV tables, as a theorem: `sysv-last` there proves it
 -- Assumes nothing.
 use Prim.Native.Nat.{ℕ, suc, _+_, _*_, _%_, _≤_, _<_}
 use mathlib.Core.Path.{_≡_}
@@ -23,7 +24,7 @@ use Rattle.symbol.specs.Table.{symbolsIn, symbolIndex}
 use Rattle.name_hash.specs.Hash.{sysvHash}
 use Rattle.lookup.specs.declared.Answer.{Answer}
 use Rattle.lookup.specs.declared.Answer.the-variants.{Found, Missing, Refused}
-use Rattle.lookup.specs.Matches.{Matches}
+use Rattle.lookup.specs.Matches.{Matches, OneAsked}
 use Rattle.lookup.specs.Wanted.{Parts, Asked}
 use Rattle.sysv_header.specs.Header.{bucketCountOf, chainCountOf, chainsAt}
 use Rattle.sysv.specs.Find.{sysvFind}
@@ -49,8 +50,8 @@ module _ (class : Class) (order : Order) (p : Parts) (asked : Asked) where
     pub none-before : (j : ℕ) → 0 < times j before → ¬ Matches class order p asked j
     pub matches : Matches class order p asked i
 
-  abbrev pub sysvAnswer : Answer
-  sysvAnswer = sysvFind class order p asked (sysvHash (asked .name))
+  abbrev pub answerByName : Answer
+  answerByName = sysvFind class order p asked (sysvHash (asked .name))
 
   abbrev pub NoMatch : Type 0
   NoMatch = (i : ℕ) → firstGlobal ≤ i → i < symbolsIn class (p .symbols) → ¬ Matches class order p asked i
@@ -58,20 +59,25 @@ module _ (class : Class) (order : Order) (p : Parts) (asked : Asked) where
   pub record Right : Type 0 where
     pub chain : List ℕ
     pub on-its-chain : OnItsChain chain
-    pub not-refused : (r : Refusal) → ¬ (sysvAnswer ≡ Refused r)
+    pub not-refused : (r : Refusal) → ¬ (answerByName ≡ Refused r)
     -- nothing exactly if no symbol 1 to n - 1 matches
-    pub nothing-then : (probes : ℕ) → sysvAnswer ≡ Missing probes → NoMatch
-    pub nothing-if : NoMatch → sysvAnswer ≡ Missing (length chain)
+    pub nothing-then : (probes : ℕ) → answerByName ≡ Missing probes → NoMatch
+    pub nothing-if : NoMatch → answerByName ≡ Missing (length chain)
     -- else the first match on the chain, after as many probes as numbers up to it
-    pub found-then : (i probes : ℕ) → sysvAnswer ≡ Found (symbolIndex i) probes
+    pub found-then : (i probes : ℕ) → answerByName ≡ Found (symbolIndex i) probes
         → (firstGlobal ≤ i) × (i < symbolsIn class (p .symbols))
         × (m : FirstMatch chain i) × (probes ≡ suc (length (m .before)))
-    pub found-first : (i : ℕ) (m : FirstMatch chain i) → sysvAnswer ≡ Found (symbolIndex i) (suc (length (m .before)))
+    pub found-first : (i : ℕ) (m : FirstMatch chain i) → answerByName ≡ Found (symbolIndex i) (suc (length (m .before)))
     pub found-if : (i : ℕ) → firstGlobal ≤ i → i < symbolsIn class (p .symbols) → Matches class order p asked i
-        → (j : ℕ) × (m : FirstMatch chain j) × (sysvAnswer ≡ Found (symbolIndex j) (suc (length (m .before))))
+        → (j : ℕ) × (m : FirstMatch chain j) × (answerByName ≡ Found (symbolIndex j) (suc (length (m .before))))
 
 abbrev pub AcceptedHolds : Type 0
 AcceptedHolds = (class : Class) (order : Order) (p : Parts) (asked : Asked)
     → sysvCheck class order (p .table) (p .symbols) (p .strings) ≡ Accepted
     → anyLong (p .versyms ∷ p .versionStrings ∷ asked .name ∷ asked .needName ∷ []) ≡ false
     → Right class order p asked
+
+-- two lookups that each state a version and get the same symbol asked for one name and one version; in any table, accepted
+-- or not, and by any hashes
+abbrev pub SysvLast : Type 0
+SysvLast = (class : Class) (order : Order) (p : Parts) → OneAsked (sysvFind class order p)

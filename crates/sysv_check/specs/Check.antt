@@ -15,4 +15,4 @@ use Rattle.sysv_check.specs.Rules.{firstGlobal, sysvTableCheck}
 unfoldable pub sysvCheck : Class → Order → (table symbols strings : List ℕ) → Checked
 sysvCheck class order table symbols strings =
     cond (anyLong (table ∷ symbols ∷ strings ∷ [])) (Refused tooLong)
-    (unlessRefused Refused (sysvFault order table) (sysvTableCheck (sysvTableOf order table class symbols strings) firstGlobal))
+    (unlessRefused Refused (sysvFault order table) (sysvTableCheck (sysvTableOf class order table symbols strings) firstGlobal))

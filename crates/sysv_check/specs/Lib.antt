@@ -1,4 +1,5 @@
 pub mod Accepted
 pub mod Check
 pub mod Count
+pub mod Meaning
 pub mod Rules

@@ -58,7 +58,7 @@ fn check_rules(
 ) -> Checked
     requires { ⌜ (header ≡ headerOf order (now table)) × (count ≡ symbolsIn class (now symbols)) ⌝ }
     ensures { λ r. ⌜ r
-        ≡ sysvTableCheck (sysvTableOf order (now (table .entry)) class (now (symbols .entry)) (now (strings .entry))) low ⌝ }
+        ≡ sysvTableCheck (sysvTableOf class order (now (table .entry)) (now (symbols .entry)) (now (strings .entry))) low ⌝ }
 {
     let buckets = header.bucket_count;
     if !has_shape(buckets, header.chain_count, count, low) {

@@ -24,7 +24,7 @@ module _ (start : tie.Start) where
   abbrev behind : SymbolCount → HeaderAt → Checked
   behind count header =
       checkFrom count header
-      (sysvTableCheck (sysvTableOf (start .args .order) (start .args .table .now) (start .args .class) (start .args .symbols .now)
+      (sysvTableCheck (sysvTableOf (start .args .class) (start .args .order) (start .args .table .now) (start .args .symbols .now)
       (start .args .strings .now)) firstGlobal)
 
   abbrev answer : Bool → Checked
