@@ -390,7 +390,7 @@ fn limits(run: &mut Run) {
         // The package's walk is refused before its first step.
         // Safety: the slice is lent for the call.
         let step = unsafe {
-            crate::edges::__wrap_fetulombo_property_step(1, 0, part.as_ptr(), part.len(), length)
+            crate::edges::__wrap_fetulombo_property_step(2, 1, part.as_ptr(), part.len(), length)
         };
         let step = match step.0[0] as u32 {
             0 => Ok(None::<()>),

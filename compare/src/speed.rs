@@ -235,8 +235,8 @@ impl Parsed {
         // Safety: the slices are lent for the call.
         let found = unsafe {
             find(
+                2,
                 1,
-                0,
                 self.table.as_ptr(),
                 self.table.len(),
                 self.made.symbols.as_ptr(),
@@ -507,7 +507,7 @@ fn parse_row(rows: Rows<'_>, what: &str, parts: &crate::versions::Parts) {
             // Safety: the slices are lent for the call, and the store is lent alone.
             let answer = unsafe {
                 fetulombo_versions_parse(
-                    0,
+                    1,
                     parts.verdef.as_ptr(),
                     parts.verdef.len(),
                     parts.verneed.as_ptr(),
@@ -573,7 +573,7 @@ fn note_row(rows: Rows<'_>, what: &str, align: u64, bytes: &[u8]) {
             loop {
                 // Safety: the slice is lent for the call.
                 let note =
-                    unsafe { fetulombo_note_step(0, align, bytes.as_ptr(), bytes.len(), at) };
+                    unsafe { fetulombo_note_step(1, align, bytes.as_ptr(), bytes.len(), at) };
                 let [found, kind, _, name_length, _, descriptor_length, next] = note.0;
                 if found == 0 {
                     return sum;
