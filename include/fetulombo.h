@@ -58,7 +58,7 @@ extern "C" {
 #define FETULOMBO_BIG 2
 
 /* The most bytes that a part may have. */
-#define FETULOMBO_LIMIT 16777216u
+#define FETULOMBO_LIMIT 1073741824u
 
 /* Refusals. fetulombo_refusal_text says them in words. */
 #define FETULOMBO_TOO_LONG 1

@@ -3,7 +3,7 @@
 //! The original has no probes and no checkers, so these are held against this.
 
 /// The most bytes that a part may have.
-const LIMIT: usize = 16_777_216;
+const LIMIT: usize = 1_073_741_824;
 
 /// A hash table with its symbols.
 #[derive(Clone, Copy)]

@@ -117,7 +117,7 @@ pub use word::{u16_at, u32_at, u64_at};
 /// assert_eq!(GnuHash::of(&name), Err(Refusal::TOO_LONG));
 /// assert!(GnuHash::of(&name[1..]).is_ok());
 /// ```
-pub const LIMIT: usize = 16_777_216;
+pub const LIMIT: usize = 1_073_741_824;
 
 /// Whether a file has the layouts of 32 bits or those of 64.
 ///

@@ -1,4 +1,6 @@
--- The cases that document 01 marks [P] (its section "Cases"), in its order and no others: what the rules give, beside what the document says.
+-- The cases that document 01 marks [P] (its section "Cases"), in its order: what the rules give, beside what the document says.
+-- Before them the size limit of document 02's item 7.
+--     limit-is          a part may have 1,073,741,824 bytes
 --     gnu-hashes        GNU hash: empty 5381; `a` 177670; `b` 177671; `ab` 5863208
 --     sysv-hashes       SysV: empty 0; `a` 97; `ab` 1650
 --     gnu-accepted      ELF32, symbols null and `a`, ..: accepted
@@ -18,7 +20,7 @@ use Rattle.endian.specs.declared.kinds.Class.the-variants.{Elf32, Elf64}
 use Rattle.endian.specs.declared.kinds.Order.{Order}
 use Rattle.endian.specs.declared.kinds.Order.the-variants.{Little, Big}
 use Rattle.endian.specs.First.{first, readable}
-use Rattle.endian.specs.Refusals.{noteShort, badNoteDescriptor, badProperty}
+use Rattle.endian.specs.Refusals.{limit, noteShort, badNoteDescriptor, badProperty}
 use Rattle.endian.specs.Word.{wordAt}
 use Rattle.gnu.specs.Find.{gnuFind}
 use Rattle.gnu.specs.Lookup.{startOf, gnuLookup}
@@ -40,6 +42,9 @@ use Rattle.symbol.specs.Table.{symbolAt, symbolIndex}
 use Rattle.version_match.specs.declared.Need.{Need}
 use Rattle.version.specs.Table.{storedAt, valid, entryAt, versymAt}
 use Rattle.version_match.specs.Match.{matching}
+
+limit-is : limit ≡ 1073741824
+limit-is = refl
 
 -- the names `a`, `b` and `ab`
 abbrev a : List ℕ

@@ -13,7 +13,7 @@ use lib.ListN.{length}
 use Rattle.endian.specs.declared.refusals.Refusal.{Refusal}
 
 abbrev pub limit : ℕ
-limit = 16777216
+limit = 1073741824
 
 abbrev pub anyLong : List (List ℕ) → Bool
 anyLong [] = false

@@ -1,9 +1,10 @@
 // The size limit, and the refusals by their numbers: document 01's, and our own.
 ghost use mathlib.Core.Path.{_≡_};
 ghost use Rattle.endian.specs.InOrder.{refusals};
+ghost use Rattle.endian.specs.Refusals.{limit};
 
 // The most bytes that a lent part may have.
-pub const LIMIT: usize = 16777216;
+pub const LIMIT: usize = 1073741824;
 
 // A refusal is its number, and nothing else.
 pub struct Refusal(pub u32);
@@ -84,6 +85,13 @@ pub const NO_SYMBOL: Refusal = Refusal(37);
 
 // Not document 01's: a class or a byte order that C passes and that is none.
 pub const UNKNOWN_KIND: Refusal = Refusal(39);
+
+// Its promise ties the constant to its name in specs/.
+fn limit_of() -> usize
+    ensures { λ r. ⌜ r ≡ limit ⌝ }
+{
+    LIMIT
+}
 
 // All of them, in the order of their numbers: its promise ties each constant to its name in specs/.
 fn in_order() -> [Refusal; 38]
