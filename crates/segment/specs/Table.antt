@@ -24,7 +24,7 @@ abbrev pub segmentSize : Class → ℕ
 segmentSize Elf32 = 32
 segmentSize Elf64 = 56
 
--- Segment32 and Segment64 of document 01: where each field stands, 4 bytes wide, or 8
+-- Segment32 and Segment64 of document 01: where each field stands; f reads 4 bytes, g 8
 abbrev pub segmentOf : Class → Order → List ℕ → (base : ℕ) → Segment
 segmentOf Elf32 order s base =
     let f = fieldAt order s base 4 in
