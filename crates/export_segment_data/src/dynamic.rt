@@ -1,5 +1,5 @@
-// The dynamic entries that a segment holds, for C. Refused in this order: a part that is too long; a number
-// that is no class or no order; as the functions of `segment_dynamic`.
+// The dynamic entries that a segment holds, for C. Refused in this order: a part that is too long; a
+// number that is no class or no order; as the functions of `segment_dynamic`.
 use endian::refusals::UNKNOWN_KIND;
 use export::kinds::are_kinds;
 use export::kinds::class_of;

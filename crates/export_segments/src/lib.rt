@@ -1,5 +1,5 @@
-// Segments, for C. Refused in this order: a table that is too long; a number that is no class or no order;
-// as the functions of `segment`. What a segment's type and flags say is asked by these two numbers.
+// Segments, for C. Refused in this order: a table that is too long; a number that is no class or no
+// order; as the functions of `segment`. What a segment's type and flags say is asked by these two numbers.
 use endian::refusals::UNKNOWN_KIND;
 use export::answers::NumberAnswer;
 use export::answers::no_number;

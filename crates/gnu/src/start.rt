@@ -7,8 +7,8 @@ ghost use mathlib.Core.Path.{_≡_};
 ghost use Rattle.gnu_table.specs.Places.{tableAt};
 ghost use Rattle.gnu.specs.Lookup.{startOf};
 
-// The first symbol of the hash's bucket, or 0 where there is no bucket, or its value is 0, past the
-// symbols, below symbol_base or past the values.
+// The symbol number that the hash's bucket holds, or 0 where there is no bucket, or its value is 0,
+// past the symbols, below symbol_base or past the values.
 pub(crate) fn start_of(
     class: Class,
     order: Order,

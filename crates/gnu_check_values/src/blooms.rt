@@ -33,8 +33,7 @@ fn has_bits(
     }
 }
 
-// The lowest hashed symbol whose hash the bloom filter does not let pass, or number
-// `count`.
+// The lowest hashed symbol whose hash the bloom filter does not let pass, or number `count`.
 pub fn lowest_unset(
     class: Class,
     order: Order,

@@ -84,8 +84,8 @@ fn check_rules(
     Checked::Accepted
 }
 
-// Whether a lookup in the table finds every symbol. Refused in this order: a part that is too long;
-// as `header_of`.
+// Whether a table keeps the rules over these symbols and strings: accepted, or the first broken rule.
+// Refused in this order: a part that is too long; as `header_of`.
 pub fn check(class: Class, order: Order, table: &[u8], symbols: &[u8], strings: &[u8]) -> Checked
     ensures { λ r. ⌜ r ≡ sysvCheck class order (now (table .entry)) (now (symbols .entry)) (now (strings .entry)) ⌝ }
 {
