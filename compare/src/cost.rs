@@ -172,7 +172,7 @@ fn best(mut run: impl FnMut()) -> Duration {
 }
 
 /// So many symbols of short names, in the order that a GNU table with these buckets asks for.
-fn many(n: usize, buckets: u32) -> tables::Symbols {
+pub fn many(n: usize, buckets: u32) -> tables::Symbols {
     let mut names: Vec<String> = (1..n).map(|k| format!("s{k:06}")).collect();
     names.sort_by_key(|name| gnu_hash(name.as_bytes()) % buckets);
     let (class, order) = (Class::Elf64, Order::Little);
