@@ -18,8 +18,8 @@
 //! for a run under a memory checker; `--blocks-probe` reads one byte past such a block, which the checker
 //! must report.
 //! `--record` writes the lists that the replay programs read, below FOLDER (the repository's crates/),
-//! and compares nothing. `--cost` times both on the inputs that cost version parsing the most, and the
-//! checkers on tables of n and 4n symbols. `--speed` times both on the same questions, with TEXT those
+//! and compares nothing. `--cost` times both on the inputs that cost version parsing and lookups the most,
+//! and the checkers on tables of n and 4n symbols. `--speed` times both on the same questions, with TEXT those
 //! rows alone whose name holds it. `--survey` says what the checkers find in the libraries below the
 //! folders. `--damage` writes copies of a library below FOLDER, each with one rule broken, and says what
 //! the checkers find in them.
@@ -147,6 +147,7 @@ fn main() -> ExitCode {
             }
             "--cost" => {
                 cost::print();
+                cost::print_lookups();
                 cost::print_checkers();
                 return ExitCode::SUCCESS;
             }

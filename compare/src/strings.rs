@@ -124,6 +124,7 @@ pub fn limits(run: &mut Run, parts: &mut limits::Parts) {
         let end = length as u32;
         let offsets = match run.limits {
             Limits::All => &[0, 1, end - 2, end - 1, end, end + 1, u32::MAX][..],
+            _ if run.is_part() => &[0],
             _ => &[0, end - 1, end],
         };
         parts.zeros[0] = b'a';

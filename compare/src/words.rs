@@ -23,9 +23,12 @@ pub fn compare(run: &mut Run) {
 
 pub fn limits(run: &mut Run, parts: &mut limits::Parts) {
     for &length in run.limits.lengths() {
+        parts.zeros[..8].fill(7);
+        parts.zeros[length - 8..length].fill(7);
         for at in [0, length - 7, length - 1, length, usize::MAX] {
-            one(run, &parts.letters[..length], at);
+            one(run, &parts.zeros[..length], at);
         }
+        parts.zeros.renew();
     }
 }
 
