@@ -3,6 +3,7 @@
 
 use crate::Run;
 use crate::inputs::{KINDS, big, is64};
+use crate::limits::{self, FORMER};
 use crate::lookups::{Asked, ask, rehashed, versions_of};
 use crate::plain::Verdict;
 use crate::report::{Answer, hex};
@@ -31,7 +32,6 @@ pub fn compare(run: &mut Run) {
             promised(run, &made, &gnu, &sysv, &asked);
         }
     }
-    limits(run);
     libraries(run);
 }
 
@@ -157,15 +157,12 @@ fn promised(run: &mut Run, made: &Symbols, gnu: &[u8], sysv: &[u8], asked: &Aske
     }
 }
 
-/// Each part of exactly the limit and of one byte more.
-fn limits(run: &mut Run) {
-    let long = vec![0; LIMIT + 1];
-    for length in [LIMIT, LIMIT + 1] {
+/// Each part of exactly the limit and of one byte more; a table of buckets alone that takes the whole of
+/// the limit, and is accepted.
+pub fn limits(run: &mut Run, parts: &mut limits::Parts) {
+    for &length in run.limits.lengths() {
         for which in 0..3 {
-            let lent = |k: usize| {
-                let length = if which == k { length } else { 16 };
-                long[..length].to_vec()
-            };
+            let lent = |k: usize| vec![0; if which == k { length } else { 16 }];
             let made = Symbols {
                 class: Class::Elf64,
                 order: Order::Big,
@@ -178,6 +175,27 @@ fn limits(run: &mut Run) {
             sysv_check(run, &made, &table);
         }
     }
+    // The plain checker reads the whole table: in a run of a part, one that is shorter.
+    let length = match (run.limits.answered(), run.is_part()) {
+        (false, _) => return,
+        (true, true) => FORMER + 4,
+        (true, false) => LIMIT,
+    };
+    let made = Symbols {
+        class: Class::Elf32,
+        order: Order::Little,
+        symbols: vec![0; 16],
+        strings: vec![0],
+        versions: Default::default(),
+    };
+    let table = &mut parts.zeros[..length];
+    for (at, word) in [(length as u32 - 20) / 4, 1, 1].iter().enumerate() {
+        table[at * 4..][..4].copy_from_slice(&word.to_le_bytes());
+    }
+    gnu_check(run, &made, table);
+    // Its last bucket holds a symbol that is not there.
+    table[length - 4] = 1;
+    gnu_check(run, &made, table);
 }
 
 /// Real tables, as they stand, damaged, and with big numbers.

@@ -1,10 +1,11 @@
-//! What version parsing costs on the inputs that are made to cost the most, and how the checkers'
-//! time grows.
+//! What version parsing and the lookups cost on the inputs that are made to cost the most, and how the
+//! checkers' time grows.
 
 use crate::plain::gnu_hash;
 use crate::tables::{self, GnuShape, gnu_table, put_symbol, sysv_table};
 use fetulombo::{
-    Class, GnuTable, GnuVerdict, LARGEST_STORE, Order, Symbols, SysvTable, SysvVerdict,
+    Class, GnuTable, GnuVerdict, LARGEST_STORE, LIMIT, Order, Symbols, SysvTable, SysvVerdict,
+    Versions,
 };
 use std::time::{Duration, Instant};
 
@@ -14,10 +15,10 @@ pub fn print() {
     for records in [1024, 4096] {
         row("one record that repeats", &repeated(records));
     }
-    for records in [1 << 14, 1 << 16, (1 << 20) - 1] {
+    for records in [1 << 14, 1 << 16, (1 << 20) - 1, (1 << 26) - 1] {
         row_alone("one record that repeats", &repeated(records));
     }
-    for records in [1024, 2048, 4096] {
+    for records in [1024, 2048, 4096, 16384] {
         row("one chain that all share", &shared(records));
     }
     let mut strings = vec![b'a'; 1 << 20];
@@ -25,6 +26,78 @@ pub fn print() {
     for records in [256, 512, 1024] {
         row_over("names of 1 MiB", &separate(records), &strings);
     }
+    strings.pop();
+    strings.resize(LIMIT - 1, b'a');
+    strings.push(0);
+    for records in [1, 4] {
+        row_over("names of 1 GiB", &separate(records), &strings);
+    }
+}
+
+/// The lookups that test the most: a SysV table of the limit whose one chain is a circle, and a GNU table
+/// whose one run has all symbols of a table of the limit. No name is the wanted one.
+pub fn print_lookups() {
+    println!("| table | probes | ours | the original |");
+    println!("|---|---:|---:|---:|");
+    let (class, order) = (Class::Elf32, Order::Little);
+    let put = |table: &mut [u8], words: &[u32]| {
+        for (place, word) in table.chunks_exact_mut(4).zip(words) {
+            place.copy_from_slice(&word.to_le_bytes());
+        }
+    };
+    let symbols = vec![0; LIMIT];
+    let names = Symbols {
+        symbols: &symbols,
+        strings: b"\0",
+    };
+    let theirs = oracle::Symbols {
+        symbols: &symbols,
+        strings: b"\0",
+    };
+    let none = oracle::Versions::none(false, false);
+    let wanted = |hash| oracle::Wanted {
+        name: b"a",
+        hash,
+        need: None,
+    };
+    let mut table = vec![0; LIMIT];
+    put(&mut table, &[1, (LIMIT as u32 - 12) / 4, 1, 0, 1]);
+    let sysv = SysvTable::parse(class, order, &table).expect("a table");
+    let start = Instant::now();
+    let found = sysv.find(names, Versions::NONE, b"a", None).expect("found");
+    let ours = start.elapsed();
+    let start = Instant::now();
+    let sysv = oracle::sysv_parse(false, false, &table).expect("a table");
+    assert_eq!(
+        sysv.find(theirs, &none, wanted(97)),
+        found.symbol.map(|s| s.0)
+    );
+    let original = start.elapsed();
+    println!(
+        "| SysV, a circle | {} | {ours:.2?} | {original:.2?} |",
+        found.probes
+    );
+    // Every value is that of `a`, none the last of its run.
+    let hash = gnu_hash(b"a");
+    put(&mut table, &[1, 1, 1, 5, u32::MAX, 1]);
+    for place in table[24..].chunks_exact_mut(4) {
+        place.copy_from_slice(&(hash & !1).to_le_bytes());
+    }
+    let gnu = GnuTable::parse(class, order, &table).expect("a table");
+    let start = Instant::now();
+    let found = gnu.find(names, Versions::NONE, b"a", None).expect("found");
+    let ours = start.elapsed();
+    let start = Instant::now();
+    let gnu = oracle::gnu_parse(false, false, &table).expect("a table");
+    assert_eq!(
+        gnu.find(theirs, &none, wanted(hash)),
+        found.symbol.map(|s| s.0)
+    );
+    let original = start.elapsed();
+    println!(
+        "| GNU, one run | {} | {ours:.2?} | {original:.2?} |",
+        found.probes
+    );
 }
 
 fn word(bytes: &mut Vec<u8>, value: u32, width: usize) {
@@ -172,7 +245,7 @@ fn best(mut run: impl FnMut()) -> Duration {
 }
 
 /// So many symbols of short names, in the order that a GNU table with these buckets asks for.
-fn many(n: usize, buckets: u32) -> tables::Symbols {
+pub fn many(n: usize, buckets: u32) -> tables::Symbols {
     let mut names: Vec<String> = (1..n).map(|k| format!("s{k:06}")).collect();
     names.sort_by_key(|name| gnu_hash(name.as_bytes()) % buckets);
     let (class, order) = (Class::Elf64, Order::Little);

@@ -2,9 +2,10 @@
 //! default run it goes on as it is; otherwise each part, wanted names and the store among them, is
 //! copied to where a read past it is caught, and lent from there.
 
+use crate::memory::{Long, PAGE, give_back, open, reserved};
 use fetulombo::LIMIT;
 use std::cell::RefCell;
-use std::ffi::{c_int, c_void};
+use std::ffi::c_int;
 use std::hint::black_box;
 use std::sync::atomic::{AtomicU8, Ordering};
 
@@ -28,50 +29,70 @@ pub fn place_parts(placing: Placing) {
     PLACING.store(placing as u8, Ordering::Relaxed);
 }
 
-/// One page without access, room for the longest part, and one more such page.
+/// One page without access, room for the longest part that is read, and more without access: a part that
+/// is too long is lent from there, for it must not be read at all.
 struct Area {
     room: *mut u8,
+    closed: *mut u8,
 }
 
-/// A multiple of the page's size on any machine that this runs on.
-const PAGE: usize = 1 << 16;
-const ROOM: usize = LIMIT + PAGE;
+/// Whole pages.
+const ROOM: usize = LIMIT;
+
+/// The pages of a part of more bytes are given back after the call.
+const KEPT: usize = 1 << 24;
 
 /// As many as the parts of the call that has the most.
 const AREAS: usize = 8;
 
-unsafe extern "C" {
-    fn mmap(
-        at: *mut c_void,
-        length: usize,
-        access: c_int,
-        flags: c_int,
-        file: c_int,
-        offset: i64,
-    ) -> *mut c_void;
-    fn mprotect(at: *mut c_void, length: usize, access: c_int) -> c_int;
-}
-
 impl Area {
     fn new() -> Self {
-        const NO_ACCESS: c_int = 0;
-        const READ_AND_WRITE: c_int = 3;
-        // Private, of no file, and without a reserve.
-        const FLAGS: c_int = 0x4022;
         // Safety: fresh memory, of which the middle is opened.
         unsafe {
-            let all = mmap(
-                std::ptr::null_mut(),
-                ROOM + 2 * PAGE,
-                NO_ACCESS,
-                FLAGS,
-                -1,
-                0,
-            );
-            assert_ne!(all as isize, -1, "no memory");
-            let room = all.byte_add(PAGE);
-            assert_eq!(mprotect(room, ROOM, READ_AND_WRITE), 0);
-            Area { room: room.cast() }
+            let room = reserved(PAGE + ROOM + LIMIT + PAGE).add(PAGE);
+            open(room, ROOM);
+            let closed = room.add(ROOM);
+            Area { room, closed }
+        }
+    }
+
+    /// Puts a part at the end of the room or at its start.
+    ///
+    /// # Safety
+    /// It has so many bytes, apart from the room.
+    unsafe fn put(&self, part: *const u8, bytes: usize, at_end: bool) -> *mut u8 {
+        if bytes > LIMIT {
+            return self.closed;
+        }
+        let to = self
+            .room
+            .wrapping_add(if at_end { ROOM - bytes } else { 0 });
+        // Safety: there is room for so many.
+        unsafe {
+            if bytes > KEPT {
+                give_back(self.room, ROOM);
+                copy_over_zeros(part, to, bytes);
+            } else {
+                part.copy_to_nonoverlapping(to, bytes);
+            }
+        }
+        to
+    }
+}
+
+/// Copies to where all is 0: pages that are 0 stay as they are.
+///
+/// # Safety
+/// Both have so many bytes, apart from each other.
+unsafe fn copy_over_zeros(from: *const u8, to: *mut u8, bytes: usize) {
+    for at in (0..bytes).step_by(PAGE) {
+        let length = PAGE.min(bytes - at);
+        // Safety: as the caller says.
+        unsafe {
+            let page = std::slice::from_raw_parts(from.add(at), length);
+            if page.iter().fold(0, |all, byte| all | byte) != 0 {
+                page.as_ptr().copy_to_nonoverlapping(to.add(at), length);
+            }
         }
     }
 }
@@ -85,6 +106,8 @@ struct Call {
     placing: u8,
     parts: usize,
     blocks: Vec<Vec<u8>>,
+    /// Rooms that are given back.
+    long: Vec<*mut u8>,
     /// The store where the caller has it, where it is lent from, and its bytes.
     store: Option<(*mut u8, *const u8, usize)>,
 }
@@ -95,6 +118,7 @@ impl Call {
             placing: PLACING.load(Ordering::Relaxed),
             parts: 0,
             blocks: Vec::new(),
+            long: Vec::new(),
             store: None,
         }
     }
@@ -107,18 +131,23 @@ impl Call {
         if self.placing == Placing::Anywhere as u8 {
             return part.cast_mut();
         }
-        let to = if self.placing == Placing::Blocks as u8 {
-            self.blocks.push(Vec::with_capacity(bytes));
-            match bytes {
-                0 => std::ptr::without_provenance_mut(16),
-                _ => self.blocks[self.parts].as_mut_ptr(),
-            }
-        } else {
-            let room = ALL.with_borrow(|areas| areas[self.parts].room);
-            let at_end = self.placing == Placing::End as u8;
-            room.wrapping_add(if at_end { ROOM - bytes } else { 0 })
-        };
+        let which = self.parts;
         self.parts += 1;
+        if self.placing != Placing::Blocks as u8 {
+            let at_end = self.placing == Placing::End as u8;
+            return ALL.with_borrow(|areas| {
+                if bytes > KEPT {
+                    self.long.push(areas[which].room);
+                }
+                // Safety: each part of a call has an area of its own.
+                unsafe { areas[which].put(part, bytes, at_end) }
+            });
+        }
+        self.blocks.push(Vec::with_capacity(bytes));
+        let to = match bytes {
+            0 => std::ptr::without_provenance_mut(16),
+            _ => self.blocks[which].as_mut_ptr(),
+        };
         // Safety: there is room for so many, apart from the caller's.
         unsafe { part.copy_to_nonoverlapping(to, bytes) };
         to
@@ -126,13 +155,18 @@ impl Call {
 }
 
 impl Drop for Call {
-    /// What was written to the store goes back to the caller's.
+    /// What was written to the store goes back to the caller's, and the pages of long parts to the
+    /// system.
     fn drop(&mut self) {
         if let Some((caller, lent, bytes)) = self.store
             && caller.cast_const() != lent
         {
             // Safety: as in `lent`.
             unsafe { lent.copy_to_nonoverlapping(caller, bytes) };
+        }
+        for &room in &self.long {
+            // Safety: the call is over.
+            unsafe { give_back(room, ROOM) };
         }
     }
 }
@@ -284,35 +318,31 @@ unsafe extern "C" {
     fn _exit(status: c_int) -> !;
 }
 
-/// Reads the byte beside a part: past its end, or before its start.
-fn read_beside(placing: Placing, length: usize) {
+/// Reads the byte at a place, counted from the start of a part.
+fn read_at(placing: Placing, part: &[u8], place: isize) {
     place_parts(placing);
     let mut call = Call::new();
     // Safety: none; this is what the guards are for.
     unsafe {
-        let part = black_box(call.lent([7; 100].as_ptr(), length));
-        let beside = match placing {
-            Placing::Start => part.wrapping_sub(1),
-            _ => part.wrapping_add(length),
-        };
-        black_box(beside.read_volatile());
+        let lent = black_box(call.lent(part.as_ptr(), part.len()));
+        black_box(lent.wrapping_offset(place).read_volatile());
     }
 }
 
 /// One byte past a part in a block of the heap: a memory checker must say so.
 pub fn read_past_block() {
-    read_beside(Placing::Blocks, 5);
+    read_at(Placing::Blocks, &[7; 5], 5);
 }
 
-/// Whether reading the byte beside a part ends the program: a copy of it tries.
-fn caught(placing: Placing, length: usize) -> bool {
+/// Whether reading a byte ends the program: a copy of it tries.
+fn caught(placing: Placing, part: &[u8], place: isize) -> bool {
     const SEGMENTATION_FAULT: c_int = 11;
     let mut status = 0;
     // Safety: there is one thread; the copy only reads where it may not, and ends.
     unsafe {
         let child = fork();
         if child == 0 {
-            read_beside(placing, length);
+            read_at(placing, part, place);
             _exit(0);
         }
         assert_eq!(waitpid(child, &mut status, 0), child);
@@ -320,12 +350,30 @@ fn caught(placing: Placing, length: usize) -> bool {
     status & 0x7f == SEGMENTATION_FAULT
 }
 
-/// Tries the guards themselves: one byte past a part, one byte before it.
+/// Tries the guards themselves: one byte past a part, one byte before it; the first and the last of one
+/// that is too long.
 pub fn try_guards() {
-    for length in [0, 1, 5, 100] {
-        for placing in [Placing::End, Placing::Start] {
-            assert!(caught(placing, length), "a read beside a part passed");
+    let zeros = Long::of(0);
+    for length in [0, 1, 5, 100, LIMIT] {
+        let part = &zeros[..length];
+        for (placing, beside) in [(Placing::End, length as isize), (Placing::Start, -1)] {
+            assert!(caught(placing, part, beside), "a read beside a part passed");
+            assert!(
+                length == 0 || !caught(placing, part, 0),
+                "a part is not read"
+            );
         }
     }
-    println!("a byte past a part, and one before it: reading it ends the program (SIGSEGV)");
+    for placing in [Placing::End, Placing::Start] {
+        for place in [0, LIMIT as isize] {
+            assert!(
+                caught(placing, &zeros, place),
+                "a read of a long part passed"
+            );
+        }
+    }
+    println!(
+        "a byte past a part, one before it, and the first and the last of a part that is too long: \
+         reading it ends the program (SIGSEGV)"
+    );
 }

@@ -4,6 +4,7 @@
 use crate::Run;
 use crate::inputs::{is64, lists};
 use crate::libraries::{DYNSYM, GNU_HASH, Library, VERDEF, VERNEED, VERSYM};
+use crate::limits;
 use crate::report::{Answer, hex};
 use crate::symbols::size;
 use fetulombo::{Class, GnuHash, LIMIT, Order, SysvHash};
@@ -20,13 +21,15 @@ pub fn compare(run: &mut Run) {
         let name = run.random.bytes(length, zeros);
         one(run, &name);
     }
-    let long = vec![0xff; LIMIT + 1];
-    for length in [LIMIT - 1, LIMIT, LIMIT + 1] {
-        one(run, &long[..length]);
-    }
     for library in run.libraries {
         gnu_values(run, library);
         version_hashes(run, library);
+    }
+}
+
+pub fn limits(run: &mut Run, parts: &mut limits::Parts) {
+    for &length in run.limits.lengths() {
+        one(run, &parts.letters[..length]);
     }
 }
 

@@ -4,6 +4,8 @@
 
 use crate::Run;
 use crate::inputs::{KINDS, Random, big, is64};
+use crate::limits::{self, FORMER};
+use crate::memory::Long;
 use crate::plain::{Found, gnu_hash, sysv_hash};
 use crate::report::hex;
 use crate::tables::{
@@ -57,7 +59,6 @@ pub fn compare(run: &mut Run) {
     }
     short_gnu(run);
     short_sysv(run);
-    limits(run);
     libraries(run);
 }
 
@@ -384,11 +385,12 @@ fn lists_of(numbers: &[u32], length: usize) -> Vec<Vec<u32>> {
         .collect()
 }
 
-/// Each part of exactly the limit and of one byte more; one that is too long comes first.
-fn limits(run: &mut Run) {
-    let long = vec![0; LIMIT + 1];
-    for (length, refused) in [(LIMIT, false), (LIMIT + 1, true)] {
-        let part = &long[..length];
+/// Each part of exactly the limit and of one byte more; one that is too long comes first. Then tables
+/// and symbols that take the whole of the limit.
+pub fn limits(run: &mut Run, parts: &mut limits::Parts) {
+    for &length in run.limits.lengths() {
+        let refused = length > LIMIT;
+        let part = &parts.zeros[..length];
         long_tables(run, part, refused);
         for which in 0..7 {
             let lent = |k: usize| if which == k { part } else { &[0; 16][..] };
@@ -423,6 +425,113 @@ fn limits(run: &mut Run) {
                 );
             }
         }
+    }
+    if run.limits.answered() {
+        for &length in run.limits.lengths().iter().filter(|&&n| n <= LIMIT) {
+            whole_tables(run, &mut parts.zeros, length);
+            last_symbols(run, length);
+        }
+        many(run);
+    }
+}
+
+/// The names that are asked of long tables.
+fn some_names(kind: Kind) -> Vec<Asked> {
+    let asked = |name: &[u8]| Asked {
+        name: name.to_vec(),
+        hash: kind.hash(name),
+        need: None,
+    };
+    vec![asked(b"a"), asked(b"b"), asked(b"")]
+}
+
+/// Puts words to the front of a table.
+fn put_words(order: Order, table: &mut [u8], words: &[u32]) {
+    let mut bytes = Vec::new();
+    for &word in words {
+        put(order, &mut bytes, word, 4);
+    }
+    table[..bytes.len()].copy_from_slice(&bytes);
+}
+
+/// A GNU table of buckets alone, a SysV table of chains alone: as many as a table of this length holds,
+/// and one more. The SysV table's bucket holds its last chain.
+fn whole_tables(run: &mut Run, long: &mut Long, length: usize) {
+    for &(class, order) in run.kinds() {
+        let made = three(class, order);
+        for more in [0, 1] {
+            let bloom = made.word();
+            let buckets = ((length - 16 - bloom) / 4 + more) as u32;
+            let words = [buckets, 1, 1, 5, u32::MAX, u32::MAX];
+            put_words(order, long, &words[..4 + bloom / 4]);
+            one(
+                run,
+                Kind::Gnu,
+                &made,
+                &long[..length],
+                &some_names(Kind::Gnu),
+            );
+            long.renew();
+            let chains = ((length - 12) / 4 + more) as u32;
+            put_words(order, long, &[1, chains, chains - 1]);
+            one(
+                run,
+                Kind::Sysv,
+                &made,
+                &long[..length],
+                &some_names(Kind::Sysv),
+            );
+            long.renew();
+        }
+    }
+}
+
+/// A symbol table of this length whose last symbol alone has a name; both tables lead to it.
+fn last_symbols(run: &mut Run, length: usize) {
+    for &(class, order) in run.kinds() {
+        let mut made = three(class, order);
+        let mut last = Vec::new();
+        put_symbol(class, order, &mut last, 1);
+        let number = (length / last.len()) as u32 - 1;
+        made.symbols = vec![0; length];
+        made.symbols[number as usize * last.len()..][..last.len()].copy_from_slice(&last);
+        for past in [0, 1] {
+            let number = number + past;
+            let mut gnu = Vec::new();
+            for word in [1, number, 1, 5] {
+                put(order, &mut gnu, word, 4);
+            }
+            put_word(order, &mut gnu, u64::MAX, made.word());
+            for word in [number, gnu_hash(b"a") | 1] {
+                put(order, &mut gnu, word, 4);
+            }
+            one(run, Kind::Gnu, &made, &gnu, &some_names(Kind::Gnu));
+            let mut sysv = Vec::new();
+            for word in [1, 1, number, 0] {
+                put(order, &mut sysv, word, 4);
+            }
+            one(run, Kind::Sysv, &made, &sysv, &some_names(Kind::Sysv));
+        }
+    }
+}
+
+/// Well-made tables over more symbols than document 01 lets a part have.
+fn many(run: &mut Run) {
+    let made = crate::cost::many(1_000_000, 250_000);
+    assert!(made.symbols.len() > FORMER);
+    let shape = GnuShape {
+        buckets: 250_000,
+        base: 1,
+        blooms: 1 << 16,
+        shift: 6,
+    };
+    let tables = [
+        (Kind::Gnu, gnu_table(&made, shape)),
+        (Kind::Sysv, sysv_table(&made, 250_000)),
+    ];
+    for (kind, table) in tables {
+        let asked = names_of(run, kind, &made, run.at_most(1_000));
+        one(run, kind, &made, &table, &asked);
     }
 }
 

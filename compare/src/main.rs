@@ -10,14 +10,16 @@
 //!     compare --survey FOLDER...
 //!     compare --damage LIBRARY FOLDER
 //!
-//! `--long` runs five times as many random inputs, `--short` an eighth of them. `--edges` runs a
-//! twentieth of them twice: every part that the archive is lent ends where a page without access begins,
-//! and then begins where one ends. `--blocks` runs a thousandth of them, and fewer of the short ones, each
-//! part in a block of the heap of exactly its size, and is for a run under a memory checker;
-//! `--blocks-probe` reads one byte past such a block, which the checker must report.
+//! `--long` runs five times as many random inputs and more parts around the limit, `--short` an eighth
+//! of the random inputs and of the parts around the limit those that are refused: it is for an emulator.
+//! `--edges` runs a twentieth of the random inputs twice: every part that the archive is lent ends where
+//! a page without access begins, and then begins where one ends. `--blocks` runs a thousandth of them,
+//! fewer of the short ones and no long part, each part in a block of the heap of exactly its size, and is
+//! for a run under a memory checker; `--blocks-probe` reads one byte past such a block, which the checker
+//! must report.
 //! `--record` writes the lists that the replay programs read, below FOLDER (the repository's crates/),
-//! and compares nothing. `--cost` times both on the inputs that cost version parsing the most, and the
-//! checkers on tables of n and 4n symbols. `--speed` times both on the same questions, with TEXT those
+//! and compares nothing. `--cost` times both on the inputs that cost version parsing and lookups the most,
+//! and the checkers on tables of n and 4n symbols. `--speed` times both on the same questions, with TEXT those
 //! rows alone whose name holds it. `--survey` says what the checkers find in the libraries below the
 //! folders. `--damage` writes copies of a library below FOLDER, each with one rule broken, and says what
 //! the checkers find in them.
@@ -28,7 +30,9 @@ mod edges;
 mod hashes;
 mod inputs;
 mod libraries;
+mod limits;
 mod lookups;
+mod memory;
 mod notes;
 mod plain;
 mod record;
@@ -44,7 +48,9 @@ mod versions;
 mod words;
 
 use edges::Placing;
+use fetulombo::{Class, Order};
 use inputs::Random;
+use limits::Limits;
 use report::Report;
 use std::process::ExitCode;
 use std::sync::Mutex;
@@ -55,6 +61,7 @@ pub struct Run {
     pub random: Random,
     /// How many times the random inputs of a default run, and which part of that.
     pub scale: (usize, usize),
+    pub limits: Limits,
     pub libraries: &'static [libraries::Library],
     pub report: Report,
 }
@@ -75,14 +82,22 @@ impl Run {
         self.scale.1 > 1
     }
 
+    /// The classes and orders in which long parts are lent.
+    pub fn kinds(&self) -> &'static [(Class, Order)] {
+        match self.is_part() {
+            true => &inputs::KINDS[..1],
+            false => &inputs::KINDS,
+        }
+    }
+
     /// Of every short input each so many-th is run.
     pub fn step(&self) -> usize {
         (self.scale.1 / 20).max(1)
     }
 }
 
-/// The comparisons, in the order of the report.
-const MODULES: [fn(&mut Run); 9] = [
+/// The comparisons, in the order of the report; the last, which takes the longest, is begun first.
+const MODULES: [fn(&mut Run); 10] = [
     words::compare,
     strings::compare,
     symbols::compare,
@@ -92,6 +107,7 @@ const MODULES: [fn(&mut Run); 9] = [
     lookups::compare,
     checks::compare,
     segments::compare,
+    limits::compare,
 ];
 
 /// How many of them run at a time.
@@ -100,14 +116,21 @@ const THREADS: usize = 2;
 fn main() -> ExitCode {
     let mut seed = 1;
     let mut scale = (1, 1);
+    let mut limits = Limits::Some;
     let mut placings = vec![Placing::Anywhere];
     let mut folder = None;
     let mut words = std::env::args().skip(1);
     while let Some(word) = words.next() {
         match word.as_str() {
             "--seed" => seed = number(words.next()),
-            "--long" => scale = (5, 1),
-            "--short" => scale = (1, 8),
+            "--long" => {
+                scale = (5, 1);
+                limits = Limits::All;
+            }
+            "--short" => {
+                scale = (1, 8);
+                limits = Limits::Refusals;
+            }
             "--edges" => {
                 edges::try_guards();
                 scale = (1, 20);
@@ -115,6 +138,7 @@ fn main() -> ExitCode {
             }
             "--blocks" => {
                 scale = (1, 1000);
+                limits = Limits::None;
                 placings = vec![Placing::Blocks];
             }
             "--blocks-probe" => {
@@ -123,6 +147,7 @@ fn main() -> ExitCode {
             }
             "--cost" => {
                 cost::print();
+                cost::print_lookups();
                 cost::print_checkers();
                 return ExitCode::SUCCESS;
             }
@@ -153,7 +178,10 @@ fn main() -> ExitCode {
     let mut same = true;
     for placing in placings {
         edges::place_parts(placing);
-        same &= compare(seed, scale, libraries);
+        same &= compare(seed, scale, limits, libraries);
+    }
+    if let Some(peak) = memory::peak() {
+        println!("the most memory in use: {peak} MiB");
     }
     match same {
         true => ExitCode::SUCCESS,
@@ -163,22 +191,30 @@ fn main() -> ExitCode {
 
 /// Everything once, and whether all answers are the same. Each comparison has random numbers of its
 /// own, so that a seed gives the same inputs whichever ends first.
-fn compare(seed: u64, scale: (usize, usize), libraries: &'static [libraries::Library]) -> bool {
+fn compare(
+    seed: u64,
+    scale: (usize, usize),
+    limits: Limits,
+    libraries: &'static [libraries::Library],
+) -> bool {
     let next = AtomicUsize::new(0);
     let reports = MODULES.map(|_| Mutex::new(Report::new()));
     let work = || {
         loop {
-            let which = next.fetch_add(1, Ordering::Relaxed);
-            let Some(module) = MODULES.get(which) else {
+            let turn = next.fetch_add(1, Ordering::Relaxed);
+            if turn >= MODULES.len() {
                 return;
-            };
+            }
+            // The last comparison, and then the others in their order.
+            let which = (turn + MODULES.len() - 1) % MODULES.len();
             let mut run = Run {
                 random: Random::new(seed.wrapping_add((which as u64) << 40)),
                 scale,
+                limits,
                 libraries,
                 report: Report::new(),
             };
-            module(&mut run);
+            MODULES[which](&mut run);
             *reports[which].lock().expect("a comparison that ended") = run.report;
         }
     };

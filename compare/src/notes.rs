@@ -3,6 +3,7 @@
 use crate::Run;
 use crate::inputs::{KINDS, Random, big, is64};
 use crate::libraries::NOTE;
+use crate::limits::{self, FORMER};
 use crate::report::{Answer, fitting, hex};
 use fetulombo::{Class, LIMIT, Order, Properties};
 use oracle::{NoteInfo, NoteStep, PropertyStep, PropertyWalk};
@@ -12,7 +13,6 @@ pub fn compare(run: &mut Run) {
     random(run);
     names(run);
     properties(run);
-    limits(run);
     libraries(run);
 }
 
@@ -357,14 +357,24 @@ fn properties(run: &mut Run) {
     }
 }
 
-fn limits(run: &mut Run) {
-    let mut long = vec![0; LIMIT + 1];
-    // One note to the end of the limit: its descriptor takes all.
-    long[4..8].copy_from_slice(&(LIMIT as u32 - 12).to_le_bytes());
-    for length in [LIMIT - 1, LIMIT, LIMIT + 1] {
-        for align in [4, 5, 8] {
-            one(run, Class::Elf64, Order::Little, align, &long[..length]);
+pub fn limits(run: &mut Run, parts: &mut limits::Parts) {
+    for &length in run.limits.lengths() {
+        let long = &mut parts.zeros;
+        // One note whose descriptor ends with the part, and one byte past it.
+        for descsz in [length - 12, length - 11] {
+            long[4..8].copy_from_slice(&(descsz as u32).to_le_bytes());
+            for align in [4, 5, 8] {
+                one(run, Class::Elf64, Order::Little, align, &long[..length]);
+            }
         }
+        // The same of a name.
+        long[4..8].fill(0);
+        for namesz in [length - 12, length - 11] {
+            long[..4].copy_from_slice(&(namesz as u32).to_le_bytes());
+            one(run, Class::Elf64, Order::Little, 4, &long[..length]);
+        }
+        long.renew();
+        long[6] = 1;
         for (name, descriptor) in [(&long[..length], &b""[..]), (b"GNU", &long[..length])] {
             let ours = fetulombo::gnu_properties(Class::Elf64, Order::Little, 5, name, descriptor)
                 .map(|walk| walk.is_some())
@@ -403,6 +413,26 @@ fn limits(run: &mut Run) {
             |_| "end",
             input,
         );
+        parts.zeros.renew();
+    }
+    if run.limits.answered() {
+        many(run);
+    }
+}
+
+/// Notes over more bytes than document 01 lets a part have.
+fn many(run: &mut Run) {
+    for &(class, order) in run.kinds() {
+        let mut bytes = Vec::new();
+        let mut kind = 0;
+        while bytes.len() <= FORMER {
+            bytes.extend(encoded(order, 8, kind, b"GNU\0", &[0x11; 1001]));
+            kind = (kind + 1) % 5;
+        }
+        one(run, class, order, 8, &bytes);
+        bytes.pop();
+        one(run, class, order, 8, &bytes);
+        one(run, class, order, 4, &bytes);
     }
 }
 

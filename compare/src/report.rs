@@ -92,9 +92,16 @@ impl Report {
         &mut self.tallies[at]
     }
 
-    /// Another's tallies after these; no entry point is in both.
+    /// Another's tallies after these; those of an entry point that is here are added.
     pub fn append(&mut self, other: Report) {
-        self.tallies.extend(other.tallies);
+        for other in other.tallies {
+            let tally = self.tally(other.name);
+            tally.inputs += other.inputs;
+            tally.differences += other.differences;
+            for (kind, count) in other.kinds {
+                *tally.kinds.entry(kind).or_default() += count;
+            }
+        }
     }
 
     pub fn differences(&self) -> u64 {

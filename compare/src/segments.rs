@@ -3,6 +3,8 @@
 use crate::Run;
 use crate::inputs::{KINDS, Random, big, is64};
 use crate::libraries::{self, Library};
+use crate::limits::{self, FORMER};
+use crate::memory::Long;
 use crate::notes::{original_steps, our_steps, walks};
 use crate::report::{Answer, hex};
 use fetulombo::{Class, LIMIT, Order, Permissions, Segment, SegmentKind};
@@ -14,7 +16,6 @@ pub fn compare(run: &mut Run) {
     meanings(run);
     boundaries(run);
     random(run);
-    limits(run);
     libraries(run);
 }
 
@@ -453,10 +454,10 @@ fn random(run: &mut Run) {
     }
 }
 
-fn limits(run: &mut Run) {
-    let long = vec![0; LIMIT + 1];
-    for (class, order) in KINDS {
-        for length in [LIMIT - 1, LIMIT, LIMIT + 1] {
+pub fn limits(run: &mut Run, parts: &mut limits::Parts) {
+    let long = &parts.zeros;
+    for &(class, order) in run.kinds() {
+        for &length in run.limits.lengths() {
             count(run, class, &long[..length]);
             let end = (length / size(class)) as u32;
             for index in [0, end - 1, end, end + 1, u32::MAX] {
@@ -496,6 +497,50 @@ fn limits(run: &mut Run) {
                 );
             }
         }
+    }
+    if run.limits.answered() {
+        long_files(run, &mut parts.zeros);
+    }
+}
+
+/// In a file of 300 MiB the notes that end it; in a file of the limit what is empty at its end; and a
+/// dynamic segment of more bytes than document 01 lets a part have.
+fn long_files(run: &mut Run, long: &mut Long) {
+    let fields = |p_type, offset: usize, filesz: usize| SegmentFields {
+        p_type,
+        flags: 4,
+        offset: offset as u64,
+        vaddr: 0,
+        paddr: 0,
+        filesz: filesz as u64,
+        memsz: 0,
+        align: 4,
+    };
+    let middle = 300 << 20;
+    for &(class, order) in run.kinds() {
+        let note = match order {
+            Order::Little => b"\x04\0\0\0\x04\0\0\0\x01\0\0\0GNU\0abcd",
+            Order::Big => b"\0\0\0\x04\0\0\0\x04\0\0\0\x01GNU\0abcd",
+        };
+        long[middle - 20..middle].copy_from_slice(note);
+        for filesz in [20, 21] {
+            for p_type in [1, 3, 4] {
+                let table = encoded(class, order, &fields(p_type, middle - 20, filesz));
+                one(run, class, order, &table, 0, &long[..middle]);
+            }
+        }
+        long.renew();
+        for (offset, filesz) in [(LIMIT, 0), (LIMIT, 1), (LIMIT + 1, 0), (1, LIMIT)] {
+            let fields = fields(1, offset, filesz);
+            let table = encoded(class, order, &fields);
+            one(run, class, order, &table, 0, &long[..LIMIT]);
+            range(run, &fields, &long[..LIMIT], 0, 0);
+        }
+    }
+    if !run.is_part() {
+        let (class, order) = (Class::Elf64, Order::Little);
+        let table = encoded(class, order, &fields(2, LIMIT - FORMER - 16, FORMER + 16));
+        one(run, class, order, &table, 0, &long[..LIMIT]);
     }
 }
 

@@ -3,6 +3,8 @@
 use crate::Run;
 use crate::inputs::lists;
 use crate::libraries::STRTAB;
+use crate::limits::{self, Limits};
+use crate::memory::Long;
 use crate::report::{Answer, hex};
 use fetulombo::LIMIT;
 
@@ -10,7 +12,6 @@ pub fn compare(run: &mut Run) {
     short(run);
     one_byte(run);
     random(run);
-    limits(run);
     libraries(run);
 }
 
@@ -116,21 +117,36 @@ fn random(run: &mut Run) {
     }
 }
 
-/// Parts of exactly the limit, and of one byte more.
-fn limits(run: &mut Run) {
-    let mut long = vec![b'a'; LIMIT + 1];
-    for last in [b'a', 0] {
-        long[LIMIT - 1] = last;
-        for length in [LIMIT - 1, LIMIT, LIMIT + 1] {
-            let end = length as u32;
-            for offset in [0, 1, end - 2, end - 1, end, end + 1, u32::MAX] {
-                at(run, &long[..length], offset);
-                equals(run, &long[..length], offset, b"a");
-                equals(run, b"a\0", offset, &long[..length]);
+/// Zeros but for the first byte; no zero at all; one zero, at the end, with names of almost that length.
+pub fn limits(run: &mut Run, parts: &mut limits::Parts) {
+    let mut other = Long::of(b'a');
+    for &length in run.limits.lengths() {
+        let end = length as u32;
+        let offsets = match run.limits {
+            Limits::All => &[0, 1, end - 2, end - 1, end, end + 1, u32::MAX][..],
+            _ if run.is_part() => &[0],
+            _ => &[0, end - 1, end],
+        };
+        parts.zeros[0] = b'a';
+        for last in [b'a', 0] {
+            parts.letters[length - 1] = last;
+            let (zeros, letters) = (&parts.zeros[..length], &parts.letters[..length]);
+            for &offset in offsets {
+                for strings in [zeros, letters] {
+                    at(run, strings, offset);
+                    equals(run, strings, offset, b"a");
+                }
+                equals(run, b"a\0", offset, letters);
             }
-            equals(run, &long[..length], 0, &long[..LIMIT - 1]);
-            equals(run, &long[..length], 0, &long[..length]);
+            equals(run, letters, 0, letters);
+            let name = length - 1;
+            equals(run, letters, 0, &other[..name]);
+            other[name - 1] = b'b';
+            equals(run, letters, 0, &other[..name]);
+            other[name - 1] = b'a';
         }
+        parts.letters.renew();
+        other.renew();
     }
 }
 

@@ -3,6 +3,7 @@
 use crate::Run;
 use crate::inputs::{KINDS, big, is64};
 use crate::libraries::{DYNSYM, Library, SYMTAB};
+use crate::limits;
 use crate::report::{Answer, hex};
 use fetulombo::{Class, LIMIT, Order, Symbol, SymbolIndex};
 use oracle::endian::Endianness;
@@ -11,7 +12,6 @@ use oracle::read::elf::Sym;
 
 pub fn compare(run: &mut Run) {
     random(run);
-    limits(run);
     libraries(run);
     facts(run);
 }
@@ -121,17 +121,31 @@ fn random(run: &mut Run) {
     }
 }
 
-fn limits(run: &mut Run) {
-    let long = vec![0; LIMIT + 1];
-    for (class, order) in KINDS {
-        for length in [LIMIT - 1, LIMIT, LIMIT + 1] {
-            count(run, class, &long[..length]);
+/// The last record of the longest table has a name and a value; names lie at the end of the strings.
+pub fn limits(run: &mut Run, parts: &mut limits::Parts) {
+    for &(class, order) in run.kinds() {
+        for &length in run.limits.lengths() {
             let end = (length / size(class)) as u32;
+            let last = oracle::Symbol {
+                name: length as u32 - 2,
+                info: 0x12,
+                other: 3,
+                shndx: 7,
+                value: 0x8765_4321,
+                size: 9,
+            };
+            let long = &mut parts.zeros;
+            let start = length / size(class) * size(class) - size(class);
+            long[start..start + size(class)].copy_from_slice(&encoded(class, order, &last));
+            let long = &long[..length];
+            count(run, class, long);
             for index in [0, 1, end - 1, end, end + 1, u32::MAX] {
-                one(run, class, order, &long[..length], b"\0", index);
-                one(run, class, order, &long[..100], &long[..length], index);
-                one(run, class, order, &long[..length], &long[..length], index);
+                one(run, class, order, long, b"\0", index);
+                one(run, class, order, &long[..100], long, index);
+                one(run, class, order, long, long, index);
             }
+            definition(run, &last, long);
+            parts.zeros.renew();
         }
     }
 }
@@ -312,7 +326,4 @@ fn facts(run: &mut Run) {
             }
         }
     }
-    let long = vec![0; LIMIT + 1];
-    definition(run, &symbol(0, 0, 0, 1), &long);
-    definition(run, &symbol(0, 0, 0, 1), &long[1..]);
 }

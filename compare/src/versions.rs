@@ -4,6 +4,8 @@
 use crate::Run;
 use crate::inputs::{Random, big};
 use crate::libraries::{VERDEF, VERNEED, VERSYM};
+use crate::limits::{self, FORMER};
+use crate::memory::Long;
 use crate::plain;
 use crate::report::{Answer, fitting, hex};
 use fetulombo::{
@@ -22,7 +24,6 @@ pub fn compare(run: &mut Run) {
         one(run, order, &parts, turn % 2_000 == 0);
     }
     stores(run);
-    limits(run);
     libraries(run);
 }
 
@@ -259,8 +260,7 @@ fn entry(run: &mut Run, versions: Versions<'_>, theirs: &oracle::Versions<'_>, i
     );
 }
 
-/// The version of each symbol, and its match with no need, with its own version as the need, and
-/// with needs that are a little different.
+/// The version of each symbol, and its match.
 fn symbols(
     run: &mut Run,
     order: Order,
@@ -269,55 +269,67 @@ fn symbols(
     highest: u16,
 ) {
     let count = versions.versyms.len() / 2;
-    for symbol in (0..count.min(12) as u32 + 2).chain([u32::MAX]) {
-        let input = || format!("symbol {symbol} versyms {}", hex(versions.versyms));
-        let versym = theirs.version_index(symbol);
+    for number in (0..count.min(12) as u32 + 2).chain([u32::MAX]) {
+        symbol(run, order, versions, theirs, highest, number);
+    }
+}
+
+/// The version of a symbol, and its match with no need, with its own version as the need, and with
+/// needs that are a little different.
+fn symbol(
+    run: &mut Run,
+    order: Order,
+    versions: Versions<'_>,
+    theirs: &oracle::Versions<'_>,
+    highest: u16,
+    symbol: u32,
+) {
+    let input = || format!("symbol {symbol} versyms {}", hex(versions.versyms));
+    let versym = theirs.version_index(symbol);
+    let ours = versions
+        .version_of(order, SymbolIndex(symbol))
+        .map(|versym| (versym.index.0, versym.hidden))
+        .map_err(|refusal| refusal.number());
+    run.report.same(
+        "version_of",
+        ours,
+        Ok((versym & 0x7fff, versym & 0x8000 != 0)),
+        |versym| if versym.1 { "hidden" } else { "not hidden" },
+        input,
+    );
+    let index = match run.random.below(4) {
+        0 => run.random.below(highest as usize + 2) as u16,
+        _ => versym & 0x7fff,
+    };
+    let (mut name, mut hash) = match theirs.entry(index) {
+        Entry::Version { hash, name, .. } => {
+            (versions.strings[name.0..name.0 + name.1].to_vec(), hash)
+        }
+        _ => (b"x".to_vec(), 0),
+    };
+    match run.random.below(6) {
+        0 => name = run.random.damaged(&name),
+        1 => name.push(0),
+        2 => hash ^= 1,
+        _ => (),
+    }
+    for need in [None, Some((&name[..], hash))] {
         let ours = versions
-            .version_of(order, SymbolIndex(symbol))
-            .map(|versym| (versym.index.0, versym.hidden))
+            .matches(
+                order,
+                SymbolIndex(symbol),
+                need.map(|(name, hash)| Needed::with_hash(name, SysvHash::from_number(hash))),
+            )
             .map_err(|refusal| refusal.number());
-        run.report.same(
-            "version_of",
-            ours,
-            Ok((versym & 0x7fff, versym & 0x8000 != 0)),
-            |versym| if versym.1 { "hidden" } else { "not hidden" },
-            input,
-        );
-        let index = match run.random.below(4) {
-            0 => run.random.below(highest as usize + 2) as u16,
-            _ => versym & 0x7fff,
+        let original = theirs.matches(symbol, need.map(|(name, hash)| oracle::Need { name, hash }));
+        let kind = |&yes: &bool| match (need, yes) {
+            (None, true) => "no need: yes",
+            (None, false) => "no need: no",
+            (Some(_), true) => "need: yes",
+            (Some(_), false) => "need: no",
         };
-        let (mut name, mut hash) = match theirs.entry(index) {
-            Entry::Version { hash, name, .. } => {
-                (versions.strings[name.0..name.0 + name.1].to_vec(), hash)
-            }
-            _ => (b"x".to_vec(), 0),
-        };
-        match run.random.below(6) {
-            0 => name = run.random.damaged(&name),
-            1 => name.push(0),
-            2 => hash ^= 1,
-            _ => (),
-        }
-        for need in [None, Some((&name[..], hash))] {
-            let ours = versions
-                .matches(
-                    order,
-                    SymbolIndex(symbol),
-                    need.map(|(name, hash)| Needed::with_hash(name, SysvHash::from_number(hash))),
-                )
-                .map_err(|refusal| refusal.number());
-            let original =
-                theirs.matches(symbol, need.map(|(name, hash)| oracle::Need { name, hash }));
-            let kind = |&yes: &bool| match (need, yes) {
-                (None, true) => "no need: yes",
-                (None, false) => "no need: no",
-                (Some(_), true) => "need: yes",
-                (Some(_), false) => "need: no",
-            };
-            run.report
-                .same("version matches", ours, Ok(original), kind, input);
-        }
+        run.report
+            .same("version matches", ours, Ok(original), kind, input);
     }
 }
 
@@ -366,23 +378,20 @@ fn stores(run: &mut Run) {
     }
 }
 
-/// Parts of exactly the limit and of one byte more.
-fn limits(run: &mut Run) {
-    let long = vec![0; LIMIT + 1];
-    let refused = |fits| if fits { Ok(0) } else { Err(1) };
-    for length in [LIMIT - 1, LIMIT, LIMIT + 1] {
+/// Each part that is too long; then records and names at the end of long parts, and as many versyms.
+pub fn limits(run: &mut Run, parts: &mut limits::Parts) {
+    let long = &parts.zeros[..];
+    let none = &long[..0];
+    for [verdef, verneed, strings] in [[long, none, none], [none, long, none], [none, none, long]] {
         let mut store = [7; 12];
-        // Strings alone: no records, so nothing is read of them.
-        let ours = fetulombo::versions_parse(Order::Big, &[], &[], &long[..length], &mut store);
+        let ours = fetulombo::versions_parse(Order::Big, verdef, verneed, strings, &mut store);
         let ours = ours.map(|index| index.0).map_err(|r| r.number());
-        let input = || format!("strings of {length}");
-        run.report.same(
-            "versions_parse",
-            ours,
-            refused(length <= LIMIT),
-            |_| "table",
-            input,
-        );
+        let input = || {
+            let [verdef, verneed, strings] = [verdef, verneed, strings].map(|part| part.len());
+            format!("parts of {verdef}, {verneed} and {strings}")
+        };
+        run.report
+            .same("versions_parse", ours, Err(1), |_| "table", input);
         run.report.same(
             "store after it",
             Ok(store == [0; 12]),
@@ -390,29 +399,89 @@ fn limits(run: &mut Run) {
             |_| "zeros",
             input,
         );
-        for [verdef, verneed] in [[&long[..length], &[]], [&[], &long[..length]]] {
-            let ours = fetulombo::versions_parse(Order::Big, verdef, verneed, &[], &mut store);
-            let ours = ours.map(|index| index.0).map_err(|r| r.number());
-            let parts = Parts {
-                verdef: verdef.to_vec(),
-                verneed: verneed.to_vec(),
-                ..Parts::default()
-            };
-            let original = match length <= LIMIT {
-                true => original(Order::Big, &parts, false).map(|v| (v.entries() - 1) as u16),
-                false => Err(1),
-            };
-            run.report
-                .same("versions_parse", ours, original, |_| "table", input);
+    }
+    long_tables(run, long);
+    if run.limits.answered() {
+        for order in [Order::Little, Order::Big] {
+            for &length in run.limits.lengths().iter().filter(|&&n| n <= LIMIT) {
+                one(run, order, &to_the_end(order, length), false);
+                versyms(run, order, length);
+            }
+            one(run, order, &many(order), false);
         }
     }
-    long_tables(run, &long);
+}
+
+/// A definition and a need at the end of sections of this length, each with a record before it, and
+/// their names at the end of strings of this length.
+fn to_the_end(order: Order, length: usize) -> Parts {
+    let [mut verdef, mut verneed, mut strings] = [(); 3].map(|_| vec![0; length]);
+    let copy = |part: &mut Vec<u8>, at: usize, fields: &[(u32, usize)]| {
+        let mut bytes = Vec::new();
+        for &(value, width) in fields {
+            put(order, &mut bytes, value, width);
+        }
+        part[at..at + bytes.len()].copy_from_slice(&bytes);
+    };
+    let (name, file) = (length as u32 - 2, length as u32 - 5);
+    strings[length - 5..].copy_from_slice(b"so\0v\0");
+    copy(&mut verdef, 16, &[(length as u32 - 28, 4)]);
+    let definition = [(1, 2), (0, 2), (2, 2), (1, 2), (0x76, 4), (20, 4), (0, 4)];
+    copy(&mut verdef, length - 28, &definition);
+    copy(&mut verdef, length - 8, &[(name, 4), (0, 4)]);
+    copy(&mut verneed, 12, &[(length as u32 - 32, 4)]);
+    let need = [(1, 2), (1, 2), (file, 4), (16, 4), (0, 4)];
+    copy(&mut verneed, length - 32, &need);
+    let record = [(0x76, 4), (0, 2), (3, 2), (name, 4), (0, 4)];
+    copy(&mut verneed, length - 16, &record);
+    Parts {
+        versyms: Vec::new(),
+        verdef,
+        verneed,
+        strings,
+    }
+}
+
+/// More needs than sections within document 01's limit can have, each with a record of its own.
+fn many(order: Order) -> Parts {
+    let mut parts = Parts {
+        strings: b"\0file\0LOT_1.0\0V\0".to_vec(),
+        ..Parts::default()
+    };
+    const NEEDS: usize = FORMER / 32 + 1;
+    for k in 0..NEEDS as u32 {
+        let next = if k + 1 < NEEDS as u32 { 32 } else { 0 };
+        for (value, width) in [(1, 2), (1, 2), (1, 4), (16, 4), (next, 4)] {
+            put(order, &mut parts.verneed, value, width);
+        }
+        for (value, width) in [(k, 4), (0, 2), (2 + k % 97, 2), (6 + k % 9, 4), (0, 4)] {
+            put(order, &mut parts.verneed, value, width);
+        }
+    }
+    parts
+}
+
+/// A versym of ones for every symbol, and the first that has none.
+fn versyms(run: &mut Run, order: Order, length: usize) {
+    let ones = Long::of(0xff);
+    let versyms = &ones[..length];
+    let theirs = oracle::versions_parse(true, big(order), versyms, None, None, &[]);
+    let theirs = theirs.expect("no section is refused");
+    let versions = Versions {
+        versyms,
+        store: &[],
+        strings: &[],
+    };
+    let end = (length / 2) as u32;
+    for number in [0, end - 1, end, end + 1, u32::MAX] {
+        symbol(run, order, versions, &theirs, 0, number);
+    }
 }
 
 /// What a version table of one definition answers when one of its parts is of the limit or longer.
 fn long_tables(run: &mut Run, long: &[u8]) {
     let store = [0, 0, 0, 0, 0, 0, 0, 0, 0, 0, 0, 0, 1, 7, 0, 0, 0, 0];
-    for length in [LIMIT - 1, LIMIT, LIMIT + 1] {
+    for &length in run.limits.lengths() {
         let input = || format!("a part of {length}");
         let part = &long[..length];
         let order = Order::Little;

@@ -2,6 +2,7 @@
 
 use crate::Run;
 use crate::inputs::{big, lists};
+use crate::limits;
 use crate::report::hex;
 use fetulombo::{LIMIT, Order};
 use oracle::endian::{Endianness, U16, U32, U64};
@@ -18,11 +19,16 @@ pub fn compare(run: &mut Run) {
         let at = run.random.near(&[0, length as u64, u64::MAX]) as usize;
         one(run, &bytes, at);
     }
-    let long = vec![7; LIMIT + 1];
-    for length in [LIMIT - 1, LIMIT, LIMIT + 1] {
-        for at in [0, length - 7, length - 1, length] {
-            one(run, &long[..length], at);
+}
+
+pub fn limits(run: &mut Run, parts: &mut limits::Parts) {
+    for &length in run.limits.lengths() {
+        parts.zeros[..8].fill(7);
+        parts.zeros[length - 8..length].fill(7);
+        for at in [0, length - 7, length - 1, length, usize::MAX] {
+            one(run, &parts.zeros[..length], at);
         }
+        parts.zeros.renew();
     }
 }
 

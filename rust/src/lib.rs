@@ -112,10 +112,10 @@ pub use word::{u16_at, u32_at, u64_at};
 /// The most bytes that a lent part may have.
 ///
 /// ```
-/// use fetulombo::{GnuHash, LIMIT, Refusal};
-/// let name = vec![b'a'; LIMIT + 1];
-/// assert_eq!(GnuHash::of(&name), Err(Refusal::TOO_LONG));
-/// assert!(GnuHash::of(&name[1..]).is_ok());
+/// use fetulombo::{LIMIT, Refusal, string_at};
+/// let strings = vec![0; LIMIT + 1];
+/// assert_eq!(string_at(&strings, 0), Err(Refusal::TOO_LONG));
+/// assert_eq!(string_at(&strings[1..], 0), Ok(&b""[..]));
 /// ```
 pub const LIMIT: usize = 1_073_741_824;
 

@@ -810,6 +810,14 @@ fn segments() {
     assert_eq!(outside.notes_place(file), Err(Refusal::BAD_NOTE_PLACE));
 }
 
+/// Document 02, item 7.
+#[test]
+fn the_limit() {
+    assert_eq!(LIMIT, 1_073_741_824);
+}
+
+// A long part of zeros that is only read costs address space, and next to no memory.
+
 #[test]
 fn too_long_comes_first() {
     let part = vec![0; LIMIT + 1];
@@ -909,8 +917,119 @@ fn too_long_comes_first() {
     assert_eq!(segment.dynamic(class, order, &part).map(drop), long);
     assert_eq!(segment.interpreter(&part).map(drop), long);
     assert_eq!(segment.notes(order, &part).map(drop), long);
-    assert_eq!(string_at(&part[1..], 0), Ok(&b""[..]));
-    assert_eq!(GnuHash::of(&part[1..]).map(drop), Ok(()));
+}
+
+/// Every part of exactly the limit passes.
+#[test]
+fn at_the_limit() {
+    let part = vec![0; LIMIT];
+    let (class, order) = (Class::Elf64, Order::Little);
+    assert_eq!(u16_at(order, &part, LIMIT - 1), Ok(0));
+    assert_eq!(u32_at(order, &part, 0), Ok(0));
+    assert_eq!(u64_at(order, &part, LIMIT), Ok(0));
+    assert_eq!(string_at(&part, 7), Ok(&b""[..]));
+    assert_eq!(string_equals(&part, 0, &part), Ok(false));
+    // 33 to the power of 2^30 is 1 modulo 2^32.
+    assert_eq!(GnuHash::of(&part).map(GnuHash::number), Ok(5381));
+    assert_eq!(SysvHash::of(&part).map(SysvHash::number), Ok(0));
+    assert_eq!(symbol_count(class, &part), Ok(44_739_242));
+    let last = SymbolIndex(44_739_241);
+    assert_eq!(symbol_name(class, order, &part, &part, last), Ok(&b""[..]));
+    let past = symbol_at(class, order, &part, SymbolIndex(44_739_242));
+    assert_eq!(past, Err(Refusal::NO_SYMBOL));
+    assert_eq!(trimmed(&part), Ok(&b""[..]));
+    assert_eq!(
+        gnu_properties(class, order, 5, b"GNU", &part).map(|found| found.is_some()),
+        Ok(true)
+    );
+    assert_eq!(property_number(order, &part), Ok(0));
+    let mut store = [9; 12];
+    let highest = versions_parse(order, &part, &part, &part, &mut store);
+    assert_eq!(highest, Ok(VersionIndex(0)));
+    assert_eq!(store, [0; 12]);
+    let versions = Versions {
+        versyms: &part,
+        store: &store,
+        strings: &part,
+    };
+    assert_eq!(versions.entry(VersionIndex(1)), Ok(None));
+    let first = SymbolIndex(0);
+    let hash = SysvHash::from_number(0);
+    let need = Some(Needed::with_hash(&part, hash));
+    assert_eq!(versions.matches(order, first, need), Ok(false));
+    let symbols = Symbols {
+        symbols: &part,
+        strings: &part,
+    };
+    let none = Ok(Found {
+        symbol: None,
+        probes: 0,
+    });
+    let gnu = GnuTable::parse(class, order, &part).unwrap();
+    let gnu_hash = GnuHash::from_number(0);
+    let found = gnu.find_hashed(symbols, versions, &part, gnu_hash, need);
+    assert_eq!(found, none);
+    let broken = GnuVerdict::Broken { rule: 1, place: 0 };
+    assert_eq!(gnu.check(symbols), Ok(broken));
+    let sysv = SysvTable::parse(class, order, &part).unwrap();
+    let found = sysv.find_hashed(symbols, versions, &part, hash, need);
+    assert_eq!(found, none);
+    assert_eq!(sysv.check(symbols), Ok(SysvVerdict::Broken { rule: 1 }));
+    assert_eq!(segment_count(class, &part), Ok(19_173_961));
+    let segment = segment_at(class, order, &part, 19_173_960).unwrap();
+    let refused = segment_at(class, order, &part, 19_173_961);
+    assert_eq!(refused, Err(Refusal::NO_SEGMENT));
+    let entry = dynamic_entry(class, order, &part, 67_108_863).unwrap();
+    assert!(entry.is_some());
+    assert_eq!(dynamic_entry(class, order, &part, 67_108_864), Ok(None));
+    let whole = Segment {
+        filesz: LIMIT as u64,
+        ..segment
+    };
+    assert_eq!(whole.data_place(&part), Ok(0..LIMIT));
+    let end = Segment {
+        offset: LIMIT as u64,
+        ..segment
+    };
+    assert_eq!(end.data(&part), Ok(&b""[..]));
+    let past = Segment { filesz: 1, ..end };
+    assert_eq!(past.data(&part), Err(Refusal::BAD_SEGMENT_DATA));
+}
+
+/// Strings, versyms and notes at the ends of parts of the limit.
+#[test]
+fn ends_of_the_limit() {
+    let order = Order::Little;
+    let mut part = vec![0; LIMIT];
+    part[0] = b'a';
+    let end = LIMIT as u32;
+    assert_eq!(string_at(&part, 0), Ok(&b"a"[..]));
+    assert_eq!(string_place(&part, end - 1), Ok(LIMIT - 1..LIMIT - 1));
+    assert_eq!(string_at(&part, end), Err(Refusal::NO_STRING));
+    // One byte more than document 01 lets a part have.
+    assert_eq!(string_at(&part[..16_777_217], 0), Ok(&b"a"[..]));
+    part[0] = 0;
+    part[LIMIT - 2..].fill(0xff);
+    let versions = Versions {
+        versyms: &part,
+        ..Versions::NONE
+    };
+    let last = versions
+        .version_of(order, SymbolIndex(536_870_911))
+        .unwrap();
+    assert_eq!((last.index, last.hidden), (VersionIndex(0x7fff), true));
+    let past = versions
+        .version_of(order, SymbolIndex(536_870_912))
+        .unwrap();
+    assert_eq!((past.index, past.hidden), (VersionIndex(1), false));
+    part[4..8].copy_from_slice(&(end - 12).to_le_bytes());
+    let mut walk = notes(order, 4, &part).unwrap();
+    let note = walk.next().unwrap().unwrap();
+    assert_eq!(note.descriptor_place, 12..LIMIT);
+    assert_eq!(walk.next(), None);
+    part[4..8].copy_from_slice(&(end - 11).to_le_bytes());
+    let refused = notes(order, 4, &part).unwrap().next();
+    assert_eq!(refused, Some(Err(Refusal::BAD_NOTE_DESCRIPTOR)));
 }
 
 #[test]

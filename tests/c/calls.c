@@ -41,6 +41,23 @@ _Static_assert(sizeof(fetulombo_segment_meaning) == 32, "segment meaning");
 _Static_assert(sizeof(fetulombo_part) == 32, "part");
 _Static_assert(sizeof(fetulombo_dynamic) == 24, "dynamic");
 
+/* Document 02, item 7. */
+_Static_assert(FETULOMBO_LIMIT == 1073741824u, "limit");
+
+/* One byte more than the limit, all 0. Whoever changes some of them makes them 0 again. While it is only read it
+ * costs address space and next to no memory. */
+static uint8_t *long_part(void) {
+    static uint8_t *part;
+    if (part == NULL) {
+        part = calloc((size_t)FETULOMBO_LIMIT + 1, 1);
+    }
+    if (part == NULL) {
+        printf("%zu bytes of memory cannot be had\n", (size_t)FETULOMBO_LIMIT + 1);
+        exit(1);
+    }
+    return part;
+}
+
 static void words(void) {
     const uint8_t bytes[] = {1, 2, 3, 4, 5, 6, 7, 8, 9};
     same("u16 little", fetulombo_u16_at(FETULOMBO_LITTLE, bytes, sizeof bytes, 1).value, 0x0302);
@@ -779,12 +796,7 @@ static uint64_t refusal_of(size_t which, uint8_t c, uint8_t o, const uint8_t *p,
 /* A class or an order that is none is refused by each of them, after a part that is too long and before all else. */
 static void kinds(void) {
     const size_t lengths[] = {0, 7, 15, 64};
-    uint8_t *long_part = calloc(FETULOMBO_LIMIT + 1, 1);
-    const uint8_t *p = long_part;
-    if (long_part == NULL) {
-        printf("no memory\n");
-        exit(1);
-    }
+    const uint8_t *p = long_part();
     same("functions that take a class or an order", sizeof every / sizeof *every, 24);
     for (size_t f = 0; f < sizeof every / sizeof *every; f++) {
         const char *name = every[f].name;
@@ -802,7 +814,7 @@ static void kinds(void) {
             }
         }
         for (uint8_t k = 0; k < 4; k++) {
-            same(name, refusal_of(f, k, k, p, FETULOMBO_LIMIT + 1), FETULOMBO_TOO_LONG);
+            same(name, refusal_of(f, k, k, p, (size_t)FETULOMBO_LIMIT + 1), FETULOMBO_TOO_LONG);
         }
     }
     /* Also where the answer would be "not this kind". */
@@ -829,7 +841,6 @@ static void kinds(void) {
     library.order = 0;
     same("a library of no order", fetulombo_library_sysv_find(&library, &wanted).refusal, FETULOMBO_UNKNOWN_KIND);
     same("a library of no order", fetulombo_library_gnu_check(&library).refusal, FETULOMBO_UNKNOWN_KIND);
-    free(long_part);
 }
 
 /* A section of a file of 64 bits, by its number: its type, the number of the section that it goes with, and its
@@ -949,14 +960,129 @@ static void texts(void) {
     same("version", !strcmp(version, FETULOMBO_VERSION), 1);
 }
 
+/* Every part of exactly the limit passes, all of a call at once. Class and order are numbers that are some. */
 static void at_the_limit(const uint8_t *part) {
     const size_t limit = FETULOMBO_LIMIT;
-    same("string at the limit", fetulombo_string_at(part, limit, (uint32_t)limit - 1).refusal, 0);
-    same("word at the limit", fetulombo_u32_at(LE, part, limit, 0).refusal, 0);
+    for (size_t f = 0; f < sizeof every / sizeof *every; f++) {
+        same(every[f].name, refusal_of(f, E32, LE, part, limit) == FETULOMBO_TOO_LONG, 0);
+    }
+    uint32_t store[12] = {0};
+    same("string at the limit", fetulombo_string_at(part, limit, 7).refusal, 0);
+    same("equals at the limit", fetulombo_string_equals(part, limit, 7, part, limit).refusal, 0);
+    same("definition at the limit", fetulombo_symbol_is_definition(part, limit, 0, 0, 0).refusal, 0);
+    same("trimmed at the limit", fetulombo_trimmed(part, limit).refusal, 0);
+    same("entry at the limit", fetulombo_version_entry(store, 12, part, limit, 0).refusal, 0);
     same("count at the limit", fetulombo_symbol_count(E32, part, limit).value, limit / 16);
     same("note at the limit", fetulombo_note_step(LE, 4, part, limit, limit - 12).found, 1);
     same("segments at the limit", fetulombo_segment_count(E32, part, limit).value, limit / 32);
     same("data at the limit", fetulombo_segment_data(part, limit, 0, limit).length, limit);
+    same("range at the limit", fetulombo_segment_data_range(part, limit, 0, 0, limit, 1, limit - 1).length, limit - 1);
+    same("interpreter at the limit", fetulombo_segment_interpreter(part, limit, 3, 1, limit - 1).found, 1);
+    same("notes at the limit", fetulombo_segment_notes(part, limit, 4, 0, limit, 8).length, limit);
+}
+
+static void put_u32(uint8_t *at, uint32_t value) {
+    for (int i = 0; i < 4; i++) {
+        at[i] = (uint8_t)(value >> 8 * i);
+    }
+}
+
+/* Strings, hashes, symbols and versyms to the end of a part of the limit. */
+static void long_records(uint8_t *part) {
+    const size_t limit = FETULOMBO_LIMIT;
+    part[0] = 'a';
+    same("string at the start", fetulombo_string_at(part, limit, 0).length, 1);
+    same("string at the last byte, refusal", fetulombo_string_at(part, limit, 1073741823).refusal, 0);
+    same("string at the last byte", fetulombo_string_at(part, limit, 1073741823).length, 0);
+    same("string at the end", fetulombo_string_at(part, limit, (uint32_t)limit).refusal, FETULOMBO_NO_STRING);
+    same("string past document 01's limit, refusal", fetulombo_string_at(part, 16777217, 0).refusal, 0);
+    same("string past document 01's limit", fetulombo_string_at(part, 16777217, 0).length, 1);
+    same("name past document 01's limit", fetulombo_string_equals(part, 16777217, 0, part, 1).value, 1);
+    part[0] = 0;
+    /* 5381 times 33 to the power of 2^30, plus the last byte; the power is 1 modulo 2^32. */
+    part[limit - 1] = 'a';
+    same("GNU hash", fetulombo_gnu_hash(part, limit).value, 5381 + 'a');
+    same("SysV hash", fetulombo_sysv_hash(part, limit).value, 'a');
+    same("trimmed", fetulombo_trimmed(part, limit).value, limit);
+    part[limit - 1] = 0;
+    /* Symbols: of 64 bits a tail of 16 bytes is left. */
+    same("symbols of 32 bits", fetulombo_symbol_count(E32, part, limit).value, 67108864);
+    same("symbols of 64 bits", fetulombo_symbol_count(E64, part, limit).value, 44739242);
+    part[limit - 12] = 7;
+    same("last of 32 bits, refusal", fetulombo_symbol_at(E32, LE, part, limit, 67108863).refusal, 0);
+    same("last of 32 bits", fetulombo_symbol_at(E32, LE, part, limit, 67108863).value, 7);
+    same("past it", fetulombo_symbol_at(E32, LE, part, limit, 67108864).refusal, FETULOMBO_NO_SYMBOL);
+    same("name of the last", fetulombo_symbol_name(E32, LE, part, limit, part, limit, 67108863).refusal, 0);
+    part[limit - 12] = 0;
+    part[limit - 32] = 7;
+    same("last of 64 bits, refusal", fetulombo_symbol_at(E64, LE, part, limit, 44739241).refusal, 0);
+    same("last of 64 bits", fetulombo_symbol_at(E64, LE, part, limit, 44739241).value, 7);
+    same("past it", fetulombo_symbol_at(E64, LE, part, limit, 44739242).refusal, FETULOMBO_NO_SYMBOL);
+    part[limit - 32] = 0;
+    part[limit - 2] = part[limit - 1] = 0xff;
+    same("last versym", fetulombo_version_of(LE, part, limit, 536870911).index, 0x7fff);
+    same("last versym, hidden", fetulombo_version_of(LE, part, limit, 536870911).hidden, 1);
+    same("past it", fetulombo_version_of(LE, part, limit, 536870912).index, 1);
+    same("past it, hidden", fetulombo_version_of(LE, part, limit, 536870912).hidden, 0);
+    part[limit - 2] = part[limit - 1] = 0;
+}
+
+/* Hash tables, notes and segments to the end of a part of the limit. */
+static void long_tables(uint8_t *part) {
+    const size_t limit = FETULOMBO_LIMIT;
+    const uint8_t null[16] = {0};
+    /* GNU, 32 bits: the header, a bloom word and buckets, nothing else. */
+    const uint32_t gnu[] = {268435451, 1, 1, 0};
+    for (size_t i = 0; i < 4; i++) {
+        put_u32(part + 4 * i, gnu[i]);
+    }
+    const fetulombo_check said = fetulombo_gnu_check(E32, LE, part, limit, null, 16, null, 1);
+    same("GNU check, refusal", said.refusal, 0);
+    same("GNU check, accepted", said.accepted, 1);
+    same("GNU check, longest", said.longest, 0);
+    same("GNU base", fetulombo_gnu_base(E32, LE, part, limit).value, 1);
+    same("GNU length, refusal", fetulombo_gnu_length(E32, LE, part, limit).refusal, 0);
+    same("GNU length, known", fetulombo_gnu_length(E32, LE, part, limit).known, 0);
+    put_u32(part, 268435452);
+    same("a bucket more", fetulombo_gnu_base(E32, LE, part, limit).refusal, FETULOMBO_BAD_GNU_BUCKETS);
+    memset(part, 0, 16);
+    /* SysV: the header, a bucket and chains. */
+    put_u32(part, 1);
+    put_u32(part + 4, 268435453);
+    same("SysV length, refusal", fetulombo_sysv_length(LE, part, limit).refusal, 0);
+    same("SysV length", fetulombo_sysv_length(LE, part, limit).value, 268435453);
+    put_u32(part + 4, 268435454);
+    same("a chain more", fetulombo_sysv_length(LE, part, limit).refusal, FETULOMBO_BAD_SYSV_CHAINS);
+    memset(part, 0, 8);
+    /* One note. */
+    put_u32(part + 4, (uint32_t)limit - 12);
+    const fetulombo_note note = fetulombo_note_step(LE, 4, part, limit, 0);
+    same("note, refusal", note.refusal, 0);
+    same("note, found", note.found, 1);
+    same("note, descriptor", note.descriptor, 12);
+    same("note, its length", note.descriptor_length, limit - 12);
+    same("note, next", note.next, limit);
+    put_u32(part + 4, (uint32_t)limit - 11);
+    same("a byte more", fetulombo_note_step(LE, 4, part, limit, 0).refusal, FETULOMBO_BAD_NOTE_DESCRIPTOR);
+    memset(part + 4, 0, 4);
+    /* A file of 300 MiB whose last 20 bytes are a note. */
+    const size_t middle = (size_t)300 << 20;
+    put_u32(part + middle - 20, 4);
+    put_u32(part + middle - 16, 4);
+    part[middle - 1] = 9;
+    const fetulombo_part held = fetulombo_segment_notes(part, middle, 4, middle - 20, 20, 4);
+    same("notes at the end of a file, refusal", held.refusal, 0);
+    same("notes at the end of a file", held.start, middle - 20);
+    same("notes at the end of a file, length", held.length, 20);
+    const fetulombo_note last = fetulombo_note_step(LE, held.number, part + held.start, held.length, 0);
+    same("the note, descriptor", last.descriptor, 16);
+    same("the note, its length", last.descriptor_length, 4);
+    same("notes past the end", fetulombo_segment_notes(part, middle, 4, middle - 20, 21, 4).refusal,
+         FETULOMBO_BAD_NOTE_PLACE);
+    memset(part + middle - 20, 0, 20);
+    same("nothing at the end, refusal", fetulombo_segment_data(part, limit, limit, 0).refusal, 0);
+    same("nothing at the end", fetulombo_segment_data(part, limit, limit, 0).length, 0);
+    same("a byte at the end", fetulombo_segment_data(part, limit, limit, 1).refusal, FETULOMBO_BAD_SEGMENT_DATA);
 }
 
 /* A part that is too long is refused before anything else, whether or not c and o are a class and an order. part
@@ -1034,6 +1160,7 @@ static void past_the_limit(const uint8_t *part, uint8_t c, uint8_t o) {
     same("entry past it", fetulombo_segment_dynamic_entry(c, o, part, limit + 1, 0).refusal, FETULOMBO_TOO_LONG);
     same("interpreter past it", fetulombo_segment_interpreter(part, limit + 1, 1, 0, 0).refusal, FETULOMBO_TOO_LONG);
     same("notes past it", fetulombo_segment_notes(part, limit + 1, 1, 0, 0, 0).refusal, FETULOMBO_TOO_LONG);
+    same("notes past it", fetulombo_segment_notes(part, limit + 1, 4, SIZE_MAX, 1, 5).refusal, FETULOMBO_TOO_LONG);
     /* The same through the structs: each part in turn, and each name, whose hash is then refused too. */
     const fetulombo_bytes too_long = {part, limit + 1};
     for (int which = 0; which < 14; which++) {
@@ -1066,17 +1193,14 @@ static void past_the_limit(const uint8_t *part, uint8_t c, uint8_t o) {
 }
 
 static void limits(void) {
-    uint8_t *part = calloc(FETULOMBO_LIMIT + 1, 1);
-    if (part == NULL) {
-        printf("no memory\n");
-        exit(1);
-    }
+    uint8_t *part = long_part();
     at_the_limit(part);
+    long_records(part);
+    long_tables(part);
     past_the_limit(part, FETULOMBO_ELF32, FETULOMBO_LITTLE);
     past_the_limit(part, FETULOMBO_ELF64, FETULOMBO_BIG);
     past_the_limit(part, 0, 0);
     past_the_limit(part, 3, 255);
-    free(part);
 }
 
 int main(int count, char **arguments) {
