@@ -82,9 +82,9 @@ impl Run {
         self.scale.1 > 1
     }
 
-    /// The classes and orders in which long parts are lent.
+    /// The classes and orders in which long parts are lent: one, where they are copied.
     pub fn kinds(&self) -> &'static [(Class, Order)] {
-        match self.is_part() {
+        match self.is_part() && self.limits.answered() {
             true => &inputs::KINDS[..1],
             false => &inputs::KINDS,
         }

@@ -422,11 +422,13 @@ pub fn limits(run: &mut Run, parts: &mut limits::Parts) {
 
 /// Notes over more bytes than document 01 lets a part have.
 fn many(run: &mut Run) {
+    // Where each call copies the part, few notes.
+    let descriptor = vec![0x11; if run.is_part() { 1 << 22 } else { 1001 }];
     for &(class, order) in run.kinds() {
         let mut bytes = Vec::new();
         let mut kind = 0;
         while bytes.len() <= FORMER {
-            bytes.extend(encoded(order, 8, kind, b"GNU\0", &[0x11; 1001]));
+            bytes.extend(encoded(order, 8, kind, b"GNU\0", &descriptor));
             kind = (kind + 1) % 5;
         }
         one(run, class, order, 8, &bytes);
