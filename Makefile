@@ -143,7 +143,7 @@ ifneq ($(wildcard $(ORACLE)/Cargo.toml),)
 # Under an emulator, an eighth of the random inputs.
 comparison: $(COMPARE)
 	$(EMULATOR) $(COMPARE) $(if $(EMULATOR),--short)
-	@$(if $(EMULATOR),$(call not_run,seven eighths of the random inputs of the comparison (under an emulator)))
+	@$(if $(EMULATOR),$(call not_run,seven eighths of the random inputs of the comparison and the long parts that are answered (under an emulator)))
 
 record: $(COMPARE)
 	$(EMULATOR) $(COMPARE) --record crates
