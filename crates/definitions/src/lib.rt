@@ -1,4 +1,6 @@
 // The definitions of a name, among all symbols.
+#![tactic(auto)]
+
 ghost use Rattle.std.specs.Prelude.{cond, ◌≡◌};
 ghost use Rattle.symbol.specs.Table.{symbol_at};
 ghost use Rattle.version.specs.Table.{versym_at};

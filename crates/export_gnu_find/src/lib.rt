@@ -1,5 +1,7 @@
 // The lookup in a GNU table, for C. Refused in this order: a part or a name that is too long; a number
 // that is no class or no order; as `gnu::find`.
+#![tactic(auto)]
+
 ghost use Rattle.std.specs.Prelude.{◌≡◌};
 ghost use Rattle.export_version_match.specs.Answers.{need_of};
 ghost use Rattle.export_gnu_find.specs.Answers.{gnu_answer};

@@ -1,5 +1,7 @@
 // Segments, for C. Refused in this order: a table that is too long; a number that is no class or no
 // order; as the functions of `segment`. What a segment's type and flags say is asked by these two numbers.
+#![tactic(auto)]
+
 ghost use Rattle.std.specs.Prelude.{◌≡◌};
 ghost use Rattle.export_segments.specs.Answers.{segment_count_answer, segment_answer, segment_at_answer, entry, kind_number, facts};
 

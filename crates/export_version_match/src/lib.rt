@@ -1,4 +1,6 @@
 // The match of a version, for C.
+#![tactic(auto)]
+
 ghost use Rattle.std.specs.Prelude.{◌≡◌};
 ghost use Rattle.symbol.specs.Table.{symbol_index};
 ghost use Rattle.export_version_match.specs.Answers.{need_of, match_answer};

@@ -1,4 +1,6 @@
 // Versions parsed into the lent store, for C.
+#![tactic(auto)]
+
 ghost use Rattle.std.specs.Prelude.{◌≡◌, length};
 ghost use Rattle.version_parse.specs.Parse.{answer_of, store_after};
 ghost use Rattle.export_version_parse.specs.Answers.{parsed_answer, parsed_by};

@@ -1,4 +1,6 @@
 // Versions, for C.
+#![tactic(auto)]
+
 ghost use Rattle.std.specs.Prelude.{◌≡◌};
 ghost use Rattle.version.specs.Table.{entry_at};
 ghost use Rattle.export_versions.specs.Answers.{version_index, no_version, version_answer, versym_answer, version_of_answer};

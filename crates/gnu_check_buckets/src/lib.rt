@@ -1,6 +1,8 @@
 // G9: each bucket holds 0 if it has no symbol, else its lowest, and its symbols are consecutive. One
 // pass over the symbols sees their runs in one bucket, and one over the buckets what they hold. In a
 // table that keeps G7 they find what breaks G9.
+#![tactic(auto)]
+
 ghost use Rattle.std.proofs.Math.Option.{get_or};
 ghost use Rattle.std.specs.Prelude.{◌≡◌, cond, eqb, ◌-◌, ◌%◌, ◌<◌, min};
 ghost use Rattle.gnu_table.specs.Layout.{table_with};

@@ -1,5 +1,7 @@
 // G10: low bit 1 exactly at a bucket's last symbol, which after G9 is the last of its run; and the
 // longest chain, by these bits.
+#![tactic(auto)]
+
 ghost use Rattle.std.specs.Prelude.{cond, ◌≡◌, ◌+◌, ◌*◌, ◌≤◌, ◌<◌, max};
 ghost use Rattle.endian.specs.Word.{word_at};
 ghost use Rattle.symbol.specs.Table.{symbol_index};

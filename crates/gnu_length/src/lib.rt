@@ -1,4 +1,6 @@
 // The length of the symbol table, from the GNU table alone.
+#![tactic(auto)]
+
 ghost use Rattle.std.specs.Prelude.{◌≡◌, ◌^◌, ◌≤◌, ◌<◌, max};
 ghost use Rattle.std.proofs.Math.Option.{some};
 ghost use Rattle.gnu_table.specs.Places.{table_at};

@@ -1,5 +1,7 @@
 // What the GNU checker answers, and the rules of the header. All its rules stand in specs/Rules.antt,
 // what an accepted table promises in specs/Demand3.antt.
+#![tactic(auto)]
+
 use endian::refusals::Refusal;
 
 pub mod header_rules;

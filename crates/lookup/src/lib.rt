@@ -1,5 +1,7 @@
 // What the lookups of both hash tables share: their answer, whether a symbol is the one that is
 // asked for, and the smaller of two numbers.
+#![tactic(auto)]
+
 ghost use Rattle.std.specs.Prelude.{◌≡◌, min};
 ghost use Rattle.lookup.specs.Wanted.{name_of, is_named, wanted_in};
 

@@ -1,5 +1,7 @@
 // The marks of an import: what is against signing it, beside the answer of its lookup. No answer moves
 // by them.
+#![tactic(auto)]
+
 ghost use Rattle.std.specs.Prelude.{◌≡◌};
 ghost use Rattle.marks.specs.Marks.{no_entry_marks, marks_by, marks_for, marks_of, any_mark};
 

@@ -1,4 +1,6 @@
 // What the fields of a found symbol say against signing an import.
+#![tactic(auto)]
+
 ghost use Rattle.std.specs.Prelude.{◌≡◌};
 ghost use Rattle.marks_entry.specs.Marks.{is_hidden, entry_marks, any_entry_mark};
 

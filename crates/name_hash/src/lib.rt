@@ -1,4 +1,6 @@
 // The two hashes of a symbol's name, and the step of the GNU one.
+#![tactic(auto)]
+
 ghost use Rattle.std.specs.Prelude.{◌≡◌};
 ghost use Rattle.name_hash.specs.Hash.{gnu_step, gnu_hash, sysv_step, sysv_hash, name_hash};
 

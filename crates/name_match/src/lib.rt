@@ -1,4 +1,6 @@
 // Whether the string at a place is a name. A block is looked at whole, so that many bytes are compared at once.
+#![tactic(auto)]
+
 ghost use Rattle.std.specs.Prelude.{◌≤◌, ◌<◌, ◌+◌, ◌≡◌, true, false, length, drop};
 ghost use Rattle.name_match.specs.Reads.{reads};
 ghost use Rattle.name_match.specs.Same.{Same, SameFrom, Stands};

@@ -1,4 +1,6 @@
 // A note's name, without the zeros at its end.
+#![tactic(auto)]
+
 ghost use Rattle.std.specs.Prelude.{◌≡◌};
 ghost use Rattle.note_name.specs.LentPart.{part_of, trimmed_part};
 

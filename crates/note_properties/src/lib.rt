@@ -1,4 +1,6 @@
 // Whether a note holds GNU properties, and the reader before the first.
+#![tactic(auto)]
+
 ghost use Rattle.std.specs.Prelude.{◌≡◌};
 ghost use Rattle.note_properties.specs.Properties.{is_gnu, gnu_properties};
 

@@ -1,5 +1,7 @@
 // The end form of the note reader: a struct that carries the lent bytes and the reader. The work is
 // done by `note`'s step.
+#![tactic(auto)]
+
 ghost use Rattle.std.specs.Prelude.{◌≡◌};
 ghost use Rattle.note.specs.Notes.{note_step};
 ghost use Rattle.note_reader.specs.Held.{notes_at, stepped};

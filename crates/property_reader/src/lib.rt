@@ -1,4 +1,6 @@
 // The GNU properties in a descriptor, one step at a time.
+#![tactic(auto)]
+
 ghost use Rattle.std.specs.Prelude.{◌≡◌, ◌+◌, ◌<◌};
 ghost use Rattle.note.specs.Notes.{aligned};
 ghost use Rattle.property_reader.specs.Reader.{property_align, property_step, property_number, property_reader_at};

@@ -1,4 +1,6 @@
 // Whether the names of symbols can be read: G6 of the GNU checker and T2 of the SysV checker.
+#![tactic(auto)]
+
 ghost use Rattle.std.specs.Prelude.{not, ◌≡◌};
 ghost use Rattle.symbol.specs.Table.{symbol_at, symbol_index};
 ghost use Rattle.lookup.specs.Search.{first_from};

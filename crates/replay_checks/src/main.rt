@@ -1,5 +1,7 @@
 // Replays the recorded verdicts of both table checkers: records of 472 bytes on the standard input
 // (docs/COMPARISON.md). Prints how many there were and how many verdicts differ.
+#![tactic(auto)]
+
 use endian::kinds::Order;
 use export::kinds::{class_of, order_of};
 use gnu_rules::Checked;

@@ -1,5 +1,7 @@
 // Replays the recorded answers of lookups in both hash tables: records of 640 bytes on the standard
 // input (docs/COMPARISON.md). Prints how many there were and how many answers differ.
+#![tactic(auto)]
+
 use endian::kinds::{Class, Order};
 use export::kinds::{class_of, order_of};
 use gnu_length::TableLength;

@@ -1,5 +1,7 @@
 // Replays the original's recorded walks over notes and properties: records of 128 bytes on the
 // standard input (docs/COMPARISON.md). Prints how many there were and how many walks differ.
+#![tactic(auto)]
+
 ghost use Rattle.std.specs.Prelude.{◌<◌};
 
 use endian::kinds::Order;

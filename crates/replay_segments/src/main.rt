@@ -1,5 +1,7 @@
 // Replays the original's recorded answers about segments: records of 320 bytes on the standard input
 // (docs/COMPARISON.md). Prints how many there were and how many answers differ.
+#![tactic(auto)]
+
 use endian::kinds::{Class, Order};
 use export::kinds::{class_of, order_of};
 use libc::{STDIN_FILENO, STDOUT_FILENO};

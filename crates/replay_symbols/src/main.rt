@@ -1,5 +1,7 @@
 // Replays the original's recorded answers about symbols: records of 128 bytes on the standard input
 // (docs/COMPARISON.md). Prints how many there were and how many answers differ.
+#![tactic(auto)]
+
 use endian::kinds::Order;
 use export::kinds::{class_of, order_of};
 use libc::{STDIN_FILENO, STDOUT_FILENO};

@@ -1,2 +1,4 @@
 // The dynamic entries that a segment holds.
+#![tactic(auto)]
+
 pub mod dynamic;

@@ -1,4 +1,6 @@
 // One segment, and what its fields say.
+#![tactic(auto)]
+
 ghost use Rattle.std.specs.Prelude.{◌≡◌};
 ghost use Rattle.segment_entry.specs.Entry.{permissions_of, kind_of};
 ghost use Rattle.segment_entry.specs.FileRange.{file_range};

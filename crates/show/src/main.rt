@@ -1,5 +1,7 @@
 // Prints what the checker says of an embedded library, and of some imports which symbol of it document
 // 01's rule takes, and what is against signing that.
+#![tactic(auto)]
+
 mod imports;
 mod library;
 mod reasons;

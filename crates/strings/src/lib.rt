@@ -1,4 +1,6 @@
 // Strings of a string table: the one at an offset, and whether it is a wanted name.
+#![tactic(auto)]
+
 ghost use Rattle.std.specs.Prelude.{◌≡◌};
 ghost use Rattle.strings.specs.Strings.{string_at, string_equals};
 ghost use Rattle.strings.specs.AfterZero.{after_zero};

@@ -1,2 +1,4 @@
 // ELF symbols: the record of a number, and its name.
+#![tactic(auto)]
+
 pub mod table;

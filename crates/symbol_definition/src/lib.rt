@@ -1,4 +1,6 @@
 // Whether a symbol is a definition.
+#![tactic(auto)]
+
 ghost use Rattle.std.specs.Prelude.{◌≡◌};
 ghost use Rattle.symbol_definition.specs.Definition.{starts_with_dollar, reserved_section, definition};
 

@@ -1,4 +1,6 @@
 // One symbol, and what its fields say.
+#![tactic(auto)]
+
 ghost use Rattle.std.specs.Prelude.{◌≡◌};
 ghost use Rattle.symbol_entry.specs.Entry.{bind_of, type_of, visibility_of, is_undefined, is_common, is_absolute, is_local, is_weak};
 

@@ -1,2 +1,4 @@
 // The SysV hash table: a lookup with its probes.
+#![tactic(auto)]
+
 pub mod find;

@@ -1,3 +1,5 @@
 // T3 of the SysV checker, by one walk along every chain.
+#![tactic(auto)]
+
 pub mod chains;
 mod names;

@@ -1,2 +1,4 @@
 // What the records of the version sections store.
+#![tactic(auto)]
+
 pub mod entries;

@@ -1,4 +1,6 @@
 // Whether the version of a symbol is the one that is needed.
+#![tactic(auto)]
+
 ghost use Rattle.std.specs.Prelude.{◌≡◌, true, ◌+◌, ◌≤◌, length, take, drop};
 ghost use Rattle.endian.specs.First.{same};
 ghost use Rattle.version.specs.Table.{inside};

@@ -1,5 +1,7 @@
 // Words of 1, 2, 4 and 8 bytes at any place of a slice, in either byte order. They are total: a
 // byte past the end counts as 0.
+#![tactic(auto)]
+
 ghost use Rattle.std.specs.Prelude.{◌≡◌, ◌+◌, ◌*◌, ◌≤◌, ◌<◌, length, get_or};
 ghost use Rattle.endian.specs.declared.kinds.Order.TheVariants.{Little};
 ghost use Rattle.endian.specs.Word.{word_at};

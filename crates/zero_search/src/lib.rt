@@ -1,4 +1,6 @@
 // The search for a zero byte. A block is looked at whole, so that many bytes are compared at once.
+#![tactic(auto)]
+
 ghost use Rattle.std.specs.Prelude.{◌≤◌, ◌<◌, ◌+◌, ◌≡◌, false, length, get_or};
 ghost use Rattle.zero_search.specs.Passed.{Passed};
 ghost use Rattle.zero_search.specs.Zeros.{first_zero};

@@ -1,0 +1,28 @@
+-- `name_hash::gnu_hash` meets its contract. The invariant: folding the rest of the name, from h, gives the hash. The measure is what is left
+-- of the name. Assumes nothing.
+use Prim.Native.Nat.{◌-◌}
+use mathlib.Core.Path.{ap}
+use lib.ListN.{length}
+use borrow.Author.Rules.{rules}
+use borrow.Author.Tests.{lt-ltb, le-ltb}
+use Rattle.name_hash.specs.declared.NameHash.TheVariants.{Hash}
+use Rattle.name_hash.specs.Hash.{gnu_step, gnu_hash}
+use Rattle.name_hash.proofs.Fold.{Folding, folding_start, folding_next, folding_end}
+use Rattle.name_hash.proofs.gnu_hash.Goals as goal
+
+pub returns-then-name-gt-LIMIT : goal.returns-then-name-gt-LIMIT
+returns-then-name-gt-LIMIT c = simp (lt-ltb _ _ c.if-name-gt-LIMIT.true)
+
+pub loop-i-init : goal.loop-i-init
+loop-i-init c = folding_start gnu_step 5381 c.args.name.now
+
+pub loop-i-preserved : goal.loop-i-preserved
+loop-i-preserved c =
+    let at-loop = c in
+    folding_next gnu_step 5381 _ _ _ at-loop.loop-i.invariant _ c.loop-i-test.true c.gnu_step-h.ensures
+
+pub returns : goal.returns
+unfolding gnu_hash
+returns c =
+    let at-loop = c in
+    simp (le-ltb _ _ at-loop.if-name-gt-LIMIT.false) (ap Hash (folding_end gnu_step 5381 _ _ _ at-loop.loop-i.invariant c.loop-i-test.false))

@@ -1,0 +1,16 @@
+-- `name_match::bytes_are_same` meets its contract. The bytes before i are the same; what is left of the name falls. Assumes nothing.
+use Prim.Native.Nat.{◌≤◌, ◌-◌}
+use mathlib.Core.Path.{◌≡◌, sym}
+use native.Mathlib.Omega.{arith}
+use lib.ListN.{length}
+use borrow.Author.Rules.{rules}
+use Rattle.endian.proofs.Falsity.{false_true}
+use Rattle.name_match.specs.Same.{SameFrom}
+use Rattle.name_match.proofs.Comparing.{reads_other, same_none, same_next, fewer}
+use Rattle.name_match.proofs.bytes_are_same.Given as goal
+
+abbrev pub invariant-loop-i : goal.invariant-loop-i
+invariant-loop-i l = (l.i ≤ length l.name) × SameFrom l.bytes l.from l.name 0 l.i
+
+abbrev pub decreases-loop-i : goal.decreases-loop-i
+decreases-loop-i l = length l.name - l.i

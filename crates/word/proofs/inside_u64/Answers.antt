@@ -1,0 +1,11 @@
+-- `word::inside_u64` meets its contract. Two halves: `word_join` at 4 and 4. Assumes nothing.
+use borrow.Author.Rules.{rules}
+use native.Mathlib.Omega.{arith}
+use Rattle.endian.specs.declared.kinds.Order.TheVariants.{Little}
+use Rattle.endian.proofs.Word.{word_join}
+use Rattle.word.proofs.inside_u64.Goals as goal
+
+pub returns : goal.returns
+returns c =
+    let args = c.args in
+    omega (arith, word_join Little 4 4 args.s.now args.at)
