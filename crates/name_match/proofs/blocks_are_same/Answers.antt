@@ -15,7 +15,7 @@ pub block_is_same-requires : goal.block_is_same-requires
 block_is_same-requires c = (search rules, omega arith)
 
 pub returns-then-not-block_is_same : goal.returns-then-not-block_is_same
-returns-then-not-block_is_same c = (λ t. false_true t, λ f. c.block_is_same.ensures.1 (not-true _ c.if-not-block_is_same.true))
+returns-then-not-block_is_same c = (λ t. false_true t, λ f. c.block_is_same.ensures.1 c.if-not-block_is_same.true)
 
 pub loop-i-init : goal.loop-i-init
 loop-i-init c =
@@ -26,14 +26,14 @@ pub block_is_same-requires-in-loop-i : goal.block_is_same-requires-in-loop-i
 block_is_same-requires-in-loop-i c = (search rules, omega arith)
 
 pub returns-then-not-block_is_same-2 : goal.returns-then-not-block_is_same-2
-returns-then-not-block_is_same-2 c = (λ t. false_true t, λ f. c.block_is_same-in-loop-i.ensures.1 (not-true _ c.if-not-block_is_same-2.true))
+returns-then-not-block_is_same-2 c = (λ t. false_true t, λ f. c.block_is_same-in-loop-i.ensures.1 c.if-not-block_is_same-2.true)
 
 pub loop-i-preserved : goal.loop-i-preserved
 loop-i-preserved c =
     let at-loop = c in
     let args = at-loop.args in
     let i = at-loop.loop-i.i in
-    let block = c.block_is_same-in-loop-i.ensures.0 (not-false _ c.if-not-block_is_same-2.false) in
+    let block = c.block_is_same-in-loop-i.ensures.0 c.if-not-block_is_same-2.false in
     (omega arith, same_join args.bytes.now args.from args.name.now 0 i i (i + 8) (le_refl _) at-loop.loop-i.invariant.1 block)
 
 pub returns : goal.returns
@@ -43,7 +43,7 @@ returns c =
     let args = first.args in
     let n = length args.name.now in
     let ends : n - 8 + 8 ≡ n = omega arith in
-    let last = rw ends at (first.block_is_same.ensures.0 (not-false _ first.if-not-block_is_same.false)) in (
+    let last = rw ends at (first.block_is_same.ensures.0 first.if-not-block_is_same.false) in (
       λ t. same_join args.bytes.now args.from args.name.now 0 at-loop.loop-i.i (n - 8) n (omega arith) at-loop.loop-i.invariant.1 last,
       λ f. false_true (sym f),
     )

@@ -18,11 +18,11 @@ returns-then-bytes-from-2 c =
     sym (reads_short (drop args.from args.bytes.now) args.name.now (rw length-drop c.if-bytes-from-2.true))
 
 pub returns-then-not-name_stands : goal.returns-then-not-name_stands
-returns-then-not-name_stands c = sym (c.name_stands.ensures.1 (not-true _ c.if-not-name_stands.true))
+returns-then-not-name_stands c = sym (c.name_stands.ensures.1 c.if-not-name_stands.true)
 
 pub returns : goal.returns
 returns c =
     let at = c in
     let args = at.args in
-    let all = at.name_stands.ensures.0 (not-false _ at.if-not-name_stands.false) in
+    let all = at.name_stands.ensures.0 at.if-not-name_stands.false in
     sym (reads_all args.bytes.now args.from args.name.now (omega arith) all)
