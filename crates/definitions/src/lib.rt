@@ -13,13 +13,13 @@ use symbol::table::{SymbolAt, SymbolCount, SymbolIndex, symbol_at, symbol_count}
 use version::table::{VersymAt, version_of};
 
 // Which definitions of a name are meant: all, or those without a version, whose index is special.
-#[derive(Drop)]
+#[derive(Clone, Copy)]
 pub enum Which {
     All,
     Unversioned,
 }
 
-#[derive(Drop)]
+#[derive(Clone, Copy)]
 pub enum Definitions {
     Count(u32),
     Refused(Refusal),

@@ -1,11 +1,11 @@
 // Class and byte order, which the original has as types, as values.
-#[derive(Drop)]
+#[derive(Clone, Copy)]
 pub enum Class {
     Elf32,
     Elf64,
 }
 
-#[derive(Drop)]
+#[derive(Clone, Copy)]
 pub enum Order {
     Little,
     Big,

@@ -8,7 +8,7 @@ use strings::StringAt;
 
 // A number, or a truth as 0 or 1. unused is 0.
 #[repr(C)]
-#[derive(Drop)]
+#[derive(Clone, Copy)]
 pub struct NumberAnswer {
     pub refusal: u64,
     pub value: u64,
@@ -17,7 +17,7 @@ pub struct NumberAnswer {
 
 // A part of a lent slice.
 #[repr(C)]
-#[derive(Drop)]
+#[derive(Clone, Copy)]
 pub struct PlaceAnswer {
     pub refusal: u64,
     pub start: u64,

@@ -10,7 +10,7 @@ use lookup::Answer;
 
 // What a lookup gives: found is 1 with a symbol, and 0 without.
 #[repr(C)]
-#[derive(Drop)]
+#[derive(Clone, Copy)]
 pub struct LookupAnswer {
     pub refusal: u32,
     pub found: u32,

@@ -8,7 +8,7 @@ use segment_entry::Segment;
 // A part of the file. found is 0 where there is none and it is not refused. number is of what was
 // asked: how many dynamic entries, or the notes' alignment.
 #[repr(C)]
-#[derive(Drop)]
+#[derive(Clone, Copy)]
 pub struct PartAnswer {
     pub refusal: u32,
     pub found: u32,

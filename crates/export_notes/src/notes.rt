@@ -11,7 +11,7 @@ use note_name::trimmed;
 // A step of a note reader: found is 1 with a note, 0 at the end or where it is refused. next is the
 // place of the reader after it.
 #[repr(C)]
-#[derive(Drop)]
+#[derive(Clone, Copy)]
 pub struct NoteAnswer {
     pub refusal: u32,
     pub found: u32,

@@ -12,7 +12,7 @@ use property_reader::{PropertyNumber, PropertyReader, PropertyStep, property_num
 // A step of a property reader: found is 1 with a property, 0 at the end or where it is refused. next is
 // the place of the reader after it.
 #[repr(C)]
-#[derive(Drop)]
+#[derive(Clone, Copy)]
 pub struct PropertyAnswer {
     pub refusal: u32,
     pub found: u32,

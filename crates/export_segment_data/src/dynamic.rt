@@ -11,7 +11,7 @@ use segment_dynamic::dynamic::{DynamicEntryAt, SegmentDynamic};
 
 // A dynamic entry. found is 0 where there is none and it is not refused.
 #[repr(C)]
-#[derive(Drop)]
+#[derive(Clone, Copy)]
 pub struct DynamicAnswer {
     pub refusal: u32,
     pub found: u32,

@@ -13,7 +13,7 @@ use segment_entry::{Segment, SegmentKind};
 
 // The fields of a segment.
 #[repr(C)]
-#[derive(Drop)]
+#[derive(Clone, Copy)]
 pub struct SegmentAnswer {
     pub refusal: u64,
     pub kind: u32,
@@ -28,7 +28,7 @@ pub struct SegmentAnswer {
 
 // What kind and flags say: the number of a known kind or 0, and three truths as 0 or 1.
 #[repr(C)]
-#[derive(Drop)]
+#[derive(Clone, Copy)]
 pub struct SegmentFactsAnswer {
     pub kind: u64,
     pub readable: u64,

@@ -10,7 +10,7 @@ use symbol_entry::Symbol;
 
 // What a symbol's info, other and section number say; the last five are 0 or 1.
 #[repr(C)]
-#[derive(Drop)]
+#[derive(Clone, Copy)]
 pub struct FactsAnswer {
     pub bind: u32,
     pub kind: u32,

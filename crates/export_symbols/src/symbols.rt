@@ -10,7 +10,7 @@ use strings::StringAt;
 use symbol::table::{SymbolAt, SymbolCount, SymbolIndex};
 
 #[repr(C)]
-#[derive(Drop)]
+#[derive(Clone, Copy)]
 pub struct SymbolAnswer {
     pub refusal: u32,
     pub name: u32,

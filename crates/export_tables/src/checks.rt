@@ -9,7 +9,7 @@ use export::kinds::{are_kinds, class_of, order_of, unless_long};
 // What a checker says: accepted, with the longest chain of a GNU table; or the first broken rule with
 // its place.
 #[repr(C)]
-#[derive(Drop)]
+#[derive(Clone, Copy)]
 pub struct CheckAnswer {
     pub refusal: u32,
     pub accepted: u32,

@@ -12,7 +12,7 @@ use sysv_header::length::ChainCount;
 
 // The length of the symbol table; known is 0 where a table says nothing of it.
 #[repr(C)]
-#[derive(Drop)]
+#[derive(Clone, Copy)]
 pub struct LengthAnswer {
     pub refusal: u64,
     pub known: u64,

@@ -13,7 +13,7 @@ use version::table::{EntryAt, VersymAt};
 
 // What stands behind a version index: special is 1 for the indices 0 and 1, which name no version.
 #[repr(C)]
-#[derive(Drop)]
+#[derive(Clone, Copy)]
 pub struct VersionAnswer {
     pub refusal: u32,
     pub special: u32,
@@ -27,7 +27,7 @@ pub struct VersionAnswer {
 
 // What a symbol's versym says; hidden is 0 or 1.
 #[repr(C)]
-#[derive(Drop)]
+#[derive(Clone, Copy)]
 pub struct VersymAnswer {
     pub refusal: u64,
     pub index: u64,

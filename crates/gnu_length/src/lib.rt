@@ -13,7 +13,7 @@ use gnu_table::header::{HeaderAt, Layout, header};
 use gnu_table::words::word_of;
 use word::u32_at;
 
-#[derive(Drop)]
+#[derive(Clone, Copy)]
 pub enum TableLength {
     Symbols(u32),
     Nothing,

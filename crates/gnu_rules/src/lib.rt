@@ -7,7 +7,7 @@ use endian::refusals::Refusal;
 pub mod header_rules;
 
 // The longest chain; the first broken rule, and its lowest symbol or bucket, or 0; or a refusal.
-#[derive(Drop)]
+#[derive(Clone, Copy)]
 pub enum Checked {
     Accepted(usize),
     Broken(u8, u32),

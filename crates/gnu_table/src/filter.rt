@@ -10,7 +10,7 @@ use endian::kinds::{Class, Order};
 use word::{u32_at, u64_at};
 
 // What it says of a hash: walk on, nothing is there, or a shift above 31 was reached.
-#[derive(Drop)]
+#[derive(Clone, Copy)]
 pub enum Bloom {
     Passes,
     Stops,

@@ -8,7 +8,7 @@ use word::u32_at;
 
 // The header's four numbers; then the places of the buckets and of the values, and how many values
 // there are.
-#[derive(Drop)]
+#[derive(Clone, Copy)]
 pub struct Layout {
     pub bucket_count: u32,
     pub symbol_base: u32,
@@ -19,7 +19,7 @@ pub struct Layout {
     pub value_count: u32,
 }
 
-#[derive(Drop)]
+#[derive(Clone, Copy)]
 pub enum HeaderAt {
     At(Layout),
     Refused(Refusal),

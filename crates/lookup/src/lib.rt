@@ -12,7 +12,7 @@ use symbol::table::{SymbolAt, SymbolIndex, symbol_at};
 use version_match::{Need, matches};
 
 // A symbol and the probes that were made, the probes alone where there is none, or a refusal.
-#[derive(Drop)]
+#[derive(Clone, Copy)]
 pub enum Answer {
     Found(SymbolIndex, usize),
     Missing(usize),

@@ -16,7 +16,7 @@ use version_match::Need;
 // Several: no version is stated, and the library holds more than one definition of the name.
 // Unversioned: a version is stated, and the library holds a definition of the name without one.
 // Unfound: nothing is found, while the library holds a definition of the name.
-#[derive(Drop)]
+#[derive(Clone, Copy)]
 pub struct Marks {
     pub several: bool,
     pub unversioned: bool,
@@ -24,7 +24,7 @@ pub struct Marks {
     pub found: EntryMarks,
 }
 
-#[derive(Drop)]
+#[derive(Clone, Copy)]
 pub enum MarksAt {
     At(Marks),
     Refused(Refusal),

@@ -14,7 +14,7 @@ pub const STV_HIDDEN: u8 = 2;
 
 pub const STT_GNU_IFUNC: u8 = 10;
 
-#[derive(Drop)]
+#[derive(Clone, Copy)]
 pub struct EntryMarks {
     pub undefined: bool,
     pub local: bool,

@@ -7,7 +7,7 @@ ghost use Rattle.name_hash.specs.Hash.{gnu_step, gnu_hash, sysv_step, sysv_hash,
 use endian::refusals::{LIMIT, Refusal, TOO_LONG};
 
 // The hash of a name, or why it is not computed.
-#[derive(Drop)]
+#[derive(Clone, Copy)]
 pub enum NameHash {
     Hash(u32),
     Refused(Refusal),

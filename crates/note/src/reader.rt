@@ -11,21 +11,21 @@ use word::u32_at;
 // The bytes of a note's header.
 pub const NOTE_HEADER: usize = 12;
 
-#[derive(Drop)]
+#[derive(Clone, Copy)]
 pub enum Align {
     Four,
     Eight,
 }
 
 // How the notes are laid out, and where the next one starts.
-#[derive(Drop)]
+#[derive(Clone, Copy)]
 pub struct NoteReader {
     pub order: Order,
     pub align: Align,
     pub at: usize,
 }
 
-#[derive(Drop)]
+#[derive(Clone, Copy)]
 pub enum ReaderFor {
     Reader(NoteReader),
     Refused(Refusal),
@@ -33,7 +33,7 @@ pub enum ReaderFor {
 
 // A note's type, and where its name and its descriptor stand in the lent bytes: namesz bytes at
 // name, and descsz bytes at descriptor.
-#[derive(Drop)]
+#[derive(Clone, Copy)]
 pub struct Note {
     pub kind: u32,
     pub name: usize,
@@ -43,7 +43,7 @@ pub struct Note {
 }
 
 // What a step found, and the reader that stands after it.
-#[derive(Drop)]
+#[derive(Clone, Copy)]
 pub enum NoteStep {
     Note(Note, NoteReader),
     End(NoteReader),

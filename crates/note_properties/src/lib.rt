@@ -12,7 +12,7 @@ use property_reader::PropertyReader;
 // The type of a note that holds properties, where its name is `GNU`.
 pub const NT_GNU_PROPERTY_TYPE_0: u32 = 5;
 
-#[derive(Drop)]
+#[derive(Clone, Copy)]
 pub enum GnuProperties {
     Reader(PropertyReader),
     NotThisKind,

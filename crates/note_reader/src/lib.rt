@@ -10,21 +10,21 @@ ghost use Rattle.note_reader.specs.Moved.{moved};
 use note::reader::{NoteReader, NoteStep};
 
 // The lent bytes, and the reader of what is left of them.
-#[derive(Drop)]
+#[derive(Clone, Copy)]
 pub struct Notes<'a> {
     pub bytes: &'a [u8],
     pub reader: NoteReader,
 }
 
 // What a step found, and the notes that are left after it.
-#[derive(Drop)]
+#[derive(Clone, Copy)]
 pub struct Stepped<'a> {
     pub answer: NoteStep,
     pub next: Notes<'a>,
 }
 
 // What a step found, and the reader after it.
-#[derive(Drop)]
+#[derive(Clone, Copy)]
 struct Moved {
     answer: NoteStep,
     next: NoteReader,

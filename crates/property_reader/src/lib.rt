@@ -14,7 +14,7 @@ use word::u32_at;
 pub const PROPERTY_HEADER: usize = 8;
 
 // How the properties are laid out, and where the next one starts.
-#[derive(Drop)]
+#[derive(Clone, Copy)]
 pub struct PropertyReader {
     pub class: Class,
     pub order: Order,
@@ -22,7 +22,7 @@ pub struct PropertyReader {
 }
 
 // A property's type, and where its data stands in the lent descriptor: size bytes at start.
-#[derive(Drop)]
+#[derive(Clone, Copy)]
 pub struct Property {
     pub kind: u32,
     pub start: usize,
@@ -30,14 +30,14 @@ pub struct Property {
 }
 
 // What a step found, and the reader that stands after it.
-#[derive(Drop)]
+#[derive(Clone, Copy)]
 pub enum PropertyStep {
     Property(Property, PropertyReader),
     End(PropertyReader),
     Refused(Refusal, PropertyReader),
 }
 
-#[derive(Drop)]
+#[derive(Clone, Copy)]
 pub enum PropertyNumber {
     Number(u32),
     Refused(Refusal),

@@ -8,13 +8,13 @@ use endian::refusals::{LIMIT, NO_SEGMENT, Refusal, TOO_LONG};
 use segment_entry::Segment;
 use word::{u32_at, u64_at};
 
-#[derive(Drop)]
+#[derive(Clone, Copy)]
 pub enum SegmentCount {
     Segments(u32),
     Refused(Refusal),
 }
 
-#[derive(Drop)]
+#[derive(Clone, Copy)]
 pub enum SegmentAt {
     At(Segment),
     Refused(Refusal),

@@ -6,13 +6,13 @@ use endian::refusals::{BAD_SEGMENT_DATA, LIMIT, Refusal, TOO_LONG};
 use segment_entry::Segment;
 
 // A part of the lent file.
-#[derive(Drop)]
+#[derive(Clone, Copy)]
 pub enum SegmentData {
     At { start: usize, len: usize },
     Refused(Refusal),
 }
 
-#[derive(Drop)]
+#[derive(Clone, Copy)]
 pub enum SegmentDataRange {
     At { start: usize, len: usize },
     NotHere,

@@ -9,7 +9,7 @@ use segment_entry::{PT_DYNAMIC, Segment};
 use word::{u32_at, u64_at};
 
 // The segment's part of the lent file, and how many whole entries it has.
-#[derive(Drop)]
+#[derive(Clone, Copy)]
 pub enum SegmentDynamic {
     At {
         start: usize,
@@ -21,13 +21,13 @@ pub enum SegmentDynamic {
 }
 
 // Both unsigned, as the layout has them.
-#[derive(Drop)]
+#[derive(Clone, Copy)]
 pub struct DynamicEntry {
     pub tag: u64,
     pub value: u64,
 }
 
-#[derive(Drop)]
+#[derive(Clone, Copy)]
 pub enum DynamicEntryAt {
     At(DynamicEntry),
     NoEntry,

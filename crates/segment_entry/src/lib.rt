@@ -15,7 +15,7 @@ pub const PT_INTERP: u32 = 3;
 pub const PT_NOTE: u32 = 4;
 
 // A program header. Offsets, addresses and sizes have 64 bits in either class.
-#[derive(Drop)]
+#[derive(Clone, Copy)]
 pub struct Segment {
     pub kind: u32,
     pub flags: u32,
@@ -28,14 +28,14 @@ pub struct Segment {
 }
 
 // Where a segment says that its bytes stand in the file.
-#[derive(Drop)]
+#[derive(Clone, Copy)]
 pub struct FileRange {
     pub offset: u64,
     pub size: u64,
 }
 
 // What a program may do with a segment in memory.
-#[derive(Drop)]
+#[derive(Clone, Copy)]
 pub struct Permissions {
     pub readable: bool,
     pub writable: bool,
@@ -43,7 +43,7 @@ pub struct Permissions {
 }
 
 // The types that this crate tells apart.
-#[derive(Drop)]
+#[derive(Clone, Copy)]
 pub enum SegmentKind {
     Load,
     Dynamic,

@@ -8,7 +8,7 @@ use segment_entry::{PT_INTERP, Segment};
 use strings::StringAt;
 
 // A part of the lent file, without its zero.
-#[derive(Drop)]
+#[derive(Clone, Copy)]
 pub enum SegmentInterpreter {
     At { start: usize, len: usize },
     NotThisKind,

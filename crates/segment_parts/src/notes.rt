@@ -9,7 +9,7 @@ use segment_data::part::is_in_file;
 use segment_entry::{PT_NOTE, Segment};
 
 // The reader before the first note, and the part of the lent file that it reads.
-#[derive(Drop)]
+#[derive(Clone, Copy)]
 pub enum SegmentNotes {
     At {
         reader: NoteReader,

@@ -10,7 +10,7 @@ use name_match::reads_name;
 use zero_search::first_zero;
 
 // A part of the lent strings, without its zero.
-#[derive(Drop)]
+#[derive(Clone, Copy)]
 pub enum StringAt {
     At { start: usize, len: usize },
     Refused(Refusal),

@@ -9,16 +9,16 @@ use symbol_entry::Symbol;
 use word::{u8_at, u16_at, u32_at, u64_at};
 
 // A symbol's number, which is never a version's.
-#[derive(Drop)]
+#[derive(Clone, Copy)]
 pub struct SymbolIndex(pub u32);
 
-#[derive(Drop)]
+#[derive(Clone, Copy)]
 pub enum SymbolCount {
     Symbols(u32),
     Refused(Refusal),
 }
 
-#[derive(Drop)]
+#[derive(Clone, Copy)]
 pub enum SymbolAt {
     At(Symbol),
     Refused(Refusal),

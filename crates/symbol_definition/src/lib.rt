@@ -11,7 +11,7 @@ use symbol_entry::{
 };
 
 // Whether a symbol is a definition, or why that is not known.
-#[derive(Drop)]
+#[derive(Clone, Copy)]
 pub enum Definition {
     Is(bool),
     Refused(Refusal),

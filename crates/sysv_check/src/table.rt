@@ -17,7 +17,7 @@ use sysv_header::header::{Header, HeaderAt, header_of};
 const FIRST_GLOBAL: u32 = 1;
 
 // Accepted, the first broken rule by its number, or a refusal.
-#[derive(Drop)]
+#[derive(Clone, Copy)]
 pub enum Checked {
     Accepted,
     Broken(u8),

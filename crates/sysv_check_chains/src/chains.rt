@@ -11,7 +11,7 @@ use symbol::table::SymbolIndex;
 use word::u32_at;
 
 // What is left of the steps after a chain, or that something is wrong with it.
-#[derive(Drop)]
+#[derive(Clone, Copy)]
 pub enum Steps {
     Left(u32),
     Wrong,

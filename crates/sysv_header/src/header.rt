@@ -8,13 +8,13 @@ use endian::refusals::{
 };
 use word::u32_at;
 
-#[derive(Drop)]
+#[derive(Clone, Copy)]
 pub struct Header {
     pub bucket_count: u32,
     pub chain_count: u32,
 }
 
-#[derive(Drop)]
+#[derive(Clone, Copy)]
 pub enum HeaderAt {
     At(Header),
     Refused(Refusal),

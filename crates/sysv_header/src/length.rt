@@ -6,7 +6,7 @@ use super::header::{HeaderAt, header_of};
 use endian::kinds::Order;
 use endian::refusals::Refusal;
 
-#[derive(Drop)]
+#[derive(Clone, Copy)]
 pub enum ChainCount {
     Chains(u32),
     Refused(Refusal),

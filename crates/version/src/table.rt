@@ -11,7 +11,7 @@ use endian::refusals::{BAD_VERSION_INDEX, LIMIT, Refusal, TOO_LONG};
 use symbol::table::SymbolIndex;
 use word::u16_at;
 
-#[derive(Drop)]
+#[derive(Clone, Copy)]
 pub enum EntryAt {
     Special,
     At(Version),
@@ -19,13 +19,13 @@ pub enum EntryAt {
 }
 
 // What a symbol's versym says: the low 15 bits, and the top bit.
-#[derive(Drop)]
+#[derive(Clone, Copy)]
 pub struct Versym {
     pub index: VersionIndex,
     pub hidden: bool,
 }
 
-#[derive(Drop)]
+#[derive(Clone, Copy)]
 pub enum VersymAt {
     At(Versym),
     Refused(Refusal),

@@ -14,7 +14,7 @@ use version_records::records::verdaux_at;
 use word::{u16_at, u32_at};
 
 // What a record stores: nothing if it is passed over.
-#[derive(Drop)]
+#[derive(Clone, Copy)]
 pub enum EntryStep {
     Nothing,
     Is {
@@ -24,7 +24,7 @@ pub enum EntryStep {
     Refused(Refusal),
 }
 
-#[derive(Drop)]
+#[derive(Clone, Copy)]
 enum PartStep {
     Is(Part),
     Refused(Refusal),

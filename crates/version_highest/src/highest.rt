@@ -15,7 +15,7 @@ use version_layout::steps::{AuxStep, Record, RecordStep, aux_refusal, is_base, r
 use version_records::records::{verdef_at, vernaux_at, verneed_at};
 use word::u16_at;
 
-#[derive(Drop)]
+#[derive(Clone, Copy)]
 pub enum High {
     Is(VersionIndex),
     Refused(Refusal),

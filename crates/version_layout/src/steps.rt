@@ -8,27 +8,27 @@ use endian::refusals::Refusal;
 use word::u16_at;
 
 // A record of a list: its place, the place of its chain, and that of the next record.
-#[derive(Drop)]
+#[derive(Clone, Copy)]
 pub struct Record {
     pub at: usize,
     pub aux: usize,
     pub next: usize,
 }
 
-#[derive(Drop)]
+#[derive(Clone, Copy)]
 pub enum RecordStep {
     Is(Record),
     Refused(Refusal),
 }
 
 // A record of a chain: its place, and that of the next record.
-#[derive(Drop)]
+#[derive(Clone, Copy)]
 pub struct Aux {
     pub at: usize,
     pub next: usize,
 }
 
-#[derive(Drop)]
+#[derive(Clone, Copy)]
 pub enum AuxStep {
     Is(Aux),
     Refused(Refusal),

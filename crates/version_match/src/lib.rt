@@ -13,7 +13,7 @@ use version::table::{EntryAt, VersymAt, entry, version_of};
 
 // Which version is needed: none in particular, which a special index meets and every version that is
 // not hidden, or the one of a hash and a name, which stands beside it.
-#[derive(Drop)]
+#[derive(Clone, Copy)]
 pub enum Need {
     Any,
     Hash(u32),

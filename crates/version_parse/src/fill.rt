@@ -19,7 +19,7 @@ use version_layout::steps::{AuxStep, Record, RecordStep, aux_refusal, record_ref
 use version_records::records::{verdef_at, vernaux_at, verneed_at};
 use word::{u16_at, u32_at};
 
-#[derive(Drop)]
+#[derive(Clone, Copy)]
 pub(crate) enum Filled {
     Done,
     Refused(Refusal),

@@ -14,7 +14,7 @@ use version::store::ENTRY;
 use version_highest::highest::{High, first_pass};
 
 // The highest index of the version sections, which the store then has room for.
-#[derive(Drop)]
+#[derive(Clone, Copy)]
 pub enum Parsed {
     Highest(VersionIndex),
     Refused(Refusal),

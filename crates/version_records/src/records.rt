@@ -14,7 +14,7 @@ use word::u32_at;
 
 // What a record of a list is tested for: its size, where its aux and its next stand, and the
 // refusals, in the order of the tests.
-#[derive(Drop)]
+#[derive(Clone, Copy)]
 struct ListShape {
     size: usize,
     aux: usize,
@@ -43,7 +43,7 @@ const VERNEED: ListShape = ListShape {
 };
 
 // The same of a record of a chain.
-#[derive(Drop)]
+#[derive(Clone, Copy)]
 struct ChainShape {
     size: usize,
     next: usize,
