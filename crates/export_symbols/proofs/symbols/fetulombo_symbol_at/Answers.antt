@@ -1,0 +1,19 @@
+-- `export_symbols::symbols::fetulombo_symbol_at` meets its contract. It is the answer of `symbol_at`, laid out, where both numbers are kinds. Assumes nothing.
+use mathlib.Core.Path.{sym, ap, ◌∙◌}
+use borrow.Author.Rules.{rules}
+use borrow.Author.Tests.{not-true, not-false}
+use Rattle.export_symbols.specs.Symbols.{symbol_answer}
+use Rattle.export_symbols.proofs.symbols.fetulombo_symbol_at.Goals as goal
+
+pub returns-then-not-are_kinds : goal.returns-then-not-are_kinds
+returns-then-not-are_kinds c =
+    let tested = c in
+    simp (sym tested.are_kinds.ensures ∙ tested.if-not-are_kinds.true)
+    (rw c.unless_long.ensures at c.symbol_answer.ensures)
+
+pub returns : goal.returns
+returns c =
+    let called = c in
+    let tested = called in
+    let found = rw (called.order_of.ensures, called.class_of.ensures) at called.symbol_at.ensures in
+    simp (sym tested.are_kinds.ensures ∙ tested.if-not-are_kinds.false) (c.symbol_answer-2.ensures ∙ ap symbol_answer found)

@@ -1,0 +1,26 @@
+-- `export_symbols::symbols::fetulombo_symbol_count` meets its contract. Each arm is told what was counted. Assumes nothing.
+use mathlib.Core.Path.{sym, ap, ◌∙◌}
+use borrow.Author.Rules.{rules}
+use borrow.Author.Tests.{not-true, not-false}
+use Rattle.export_symbols.specs.Symbols.{count_answer}
+use Rattle.export_symbols.proofs.symbols.fetulombo_symbol_count.Goals as goal
+
+pub returns-then-not-is_kind : goal.returns-then-not-is_kind
+returns-then-not-is_kind c =
+    let tested = c in
+    simp (sym tested.is_kind.ensures ∙ tested.if-not-is_kind.true)
+    (rw c.unless_long.ensures at c.no_number.ensures)
+
+pub returns-in-Symbols : goal.returns-in-Symbols
+returns-in-Symbols c =
+    let called = c in
+    let tested = called in
+    let counted = rw called.class_of.ensures at called.symbol_count.ensures in
+    simp (sym tested.is_kind.ensures ∙ tested.if-not-is_kind.false) (c.number_answer.ensures ∙ ap count_answer (sym c.in-Symbols.is ∙ counted))
+
+pub returns-in-Refused : goal.returns-in-Refused
+returns-in-Refused c =
+    let called = c in
+    let tested = called in
+    let counted = rw called.class_of.ensures at called.symbol_count.ensures in
+    simp (sym tested.is_kind.ensures ∙ tested.if-not-is_kind.false) (c.no_number-in-Refused.ensures ∙ ap count_answer (sym c.in-Refused.is ∙ counted))

@@ -1,0 +1,51 @@
+-- `readable_names::lowest_unreadable` meets its contract. The invariant: the first from here on is the first of all. The
+-- measure is what is left of the symbols. Assumes nothing.
+use Prim.Native.Nat.{ℕ, ◌-◌}
+use mathlib.Core.Path.{◌≡◌, sym, ap, ◌∙◌}
+use mathlib.Core.Bool.{Bool, not}
+use mathlib.Core.List.{List}
+use borrow.Author.Rules.{rules}
+use Rattle.endian.specs.declared.kinds.Class.{Class}
+use Rattle.endian.specs.declared.kinds.Order.{Order}
+use Rattle.symbol.specs.Table.{symbol_at, symbol_index}
+use Rattle.readable_names.specs.Readable.{readable_in, starts_below}
+use Rattle.readable_names.proofs.Reading.{name_readable_lem}
+use Rattle.lookup.proofs.Searching.{Searching, searching_start, searching_next, searching_here, searching_end}
+use Rattle.readable_names.proofs.lowest_unreadable.Goals as goal
+
+abbrev broken : Class → Order → (symbols strings : List ℕ) → ℕ → Bool
+broken class order symbols strings i = not (readable_in class order symbols strings i)
+
+pub loop-i-init : goal.loop-i-init
+loop-i-init c = searching_start _ _ _
+
+-- what was tested is the rule
+tested : (c : goal.After-starts_below)
+    → let a = c.args in
+    readable_in a.class a.order a.symbols.now a.strings.now c.loop-i.i
+    ≡ c.starts_below.result
+tested c =
+    let ended = c in
+    let start = ended in
+    let a = start.args in
+    let i = c.loop-i.i in
+    name_readable_lem a.class a.order a.symbols.now a.strings.now i
+    ∙ ap (λ end. starts_below end (symbol_at a.class a.order a.symbols.now (symbol_index i)))
+    (sym ended.readable_end-end.ensures)
+    ∙ sym c.starts_below.ensures
+
+pub returns-then-not-starts_below : goal.returns-then-not-starts_below
+returns-then-not-starts_below c =
+    let at-loop = c in
+    ap symbol_index
+    (searching_here _ _ _ at-loop.loop-i.i at-loop.loop-i.invariant c.loop-i-test.true
+    (ap not (tested c) ∙ c.if-not-starts_below.true))
+
+pub loop-i-preserved : goal.loop-i-preserved
+loop-i-preserved c =
+    let at-loop = c in
+    searching_next _ _ _ at-loop.loop-i.i at-loop.loop-i.invariant c.loop-i-test.true
+    (ap not (tested c) ∙ c.if-not-starts_below.false)
+
+pub returns : goal.returns
+returns c = ap symbol_index (searching_end _ _ _ c.loop-i.i c.loop-i.invariant c.loop-i-test.false)

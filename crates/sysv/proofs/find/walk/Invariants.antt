@@ -1,0 +1,22 @@
+-- `sysv::find::walk` meets its contract. The invariant: the numbers that are left, after the probes that were made, give the
+-- answer. The measure is what is left of the tests. Assumes nothing.
+use Prim.Native.Nat.{◌+◌, ◌*◌, ◌-◌, ◌^◌, ◌≤◌, ◌<◌}
+use mathlib.Core.Path.{sym, ◌∙◌}
+use native.Mathlib.Omega.{arith}
+use borrow.Author.Rules.{rules}
+use Rattle.endian.specs.Word.{word_at}
+use Rattle.lookup.specs.Wanted.{wanted_in}
+use Rattle.sysv.proofs.Walking.{Walking, walking_start, walking_zero, walking_spent, walking_match, walking_past, walking_on}
+use Rattle.sysv.proofs.find.walk.Given as goal
+
+abbrev pub invariant-loop-i : goal.invariant-loop-i
+invariant-loop-i l =
+    (l.i < 2 ^ 32) × (l.probes ≤ l.chains)
+    × Walking
+    (wanted_in l.class l.order l.symbols l.strings l.versyms l.store l.version_strings
+    (record { name = l.name; need = l.need; need_name = l.need_name }))
+    l.chains (λ j. word_at l.order 4 l.table (l.chains_at + j * 4)) l.start l.i l.probes
+
+abbrev pub decreases-loop-i : goal.decreases-loop-i
+decreases-loop-i l =
+    l.chains - l.probes
