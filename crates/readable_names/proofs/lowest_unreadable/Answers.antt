@@ -13,18 +13,13 @@ use Rattle.readable_names.proofs.Reading.{name_readable_lem}
 use Rattle.lookup.proofs.Searching.{Searching, searching_start, searching_next, searching_here, searching_end}
 use Rattle.readable_names.proofs.lowest_unreadable.Goals as goal
 
-abbrev broken : Class → Order → (symbols strings : List ℕ) → ℕ → Bool
-broken class order symbols strings i = not (readable_in class order symbols strings i)
-
 pub loop-i-init : goal.loop-i-init
 loop-i-init c = searching_start _ _ _
 
--- what was tested is the rule
-tested : (c : goal.After-starts_below)
-    → let a = c.args in
-    readable_in a.class a.order a.symbols.now a.strings.now c.loop-i.i
-    ≡ c.starts_below.result
-tested c =
+pub returns-then-not-starts_below : goal.returns-then-not-starts_below
+returns-then-not-starts_below c =
+    let tested : readable_in c.args.class c.args.order c.args.symbols.now c.args.strings.now c.loop-i.i
+    ≡ c.starts_below.result =
     let ended = c in
     let start = ended in
     let a = start.args in
@@ -32,20 +27,27 @@ tested c =
     name_readable_lem a.class a.order a.symbols.now a.strings.now i
     ∙ ap (λ end. starts_below end (symbol_at a.class a.order a.symbols.now (symbol_index i)))
     (sym ended.readable_end-end.ensures)
-    ∙ sym c.starts_below.ensures
-
-pub returns-then-not-starts_below : goal.returns-then-not-starts_below
-returns-then-not-starts_below c =
+    ∙ sym c.starts_below.ensures in
     let at-loop = c in
     ap symbol_index
     (searching_here _ _ _ at-loop.loop-i.i at-loop.loop-i.invariant c.loop-i-test.true
-    (ap not (tested c) ∙ c.if-not-starts_below.true))
+    (ap not tested ∙ ap not c.if-not-starts_below.true))
 
 pub loop-i-preserved : goal.loop-i-preserved
 loop-i-preserved c =
+    let tested : readable_in c.args.class c.args.order c.args.symbols.now c.args.strings.now c.loop-i.i
+    ≡ c.starts_below.result =
+    let ended = c in
+    let start = ended in
+    let a = start.args in
+    let i = c.loop-i.i in
+    name_readable_lem a.class a.order a.symbols.now a.strings.now i
+    ∙ ap (λ end. starts_below end (symbol_at a.class a.order a.symbols.now (symbol_index i)))
+    (sym ended.readable_end-end.ensures)
+    ∙ sym c.starts_below.ensures in
     let at-loop = c in
     searching_next _ _ _ at-loop.loop-i.i at-loop.loop-i.invariant c.loop-i-test.true
-    (ap not (tested c) ∙ c.if-not-starts_below.false)
+    (ap not tested ∙ ap not c.if-not-starts_below.false)
 
 pub returns : goal.returns
 returns c = ap symbol_index (searching_end _ _ _ c.loop-i.i c.loop-i.invariant c.loop-i-test.false)

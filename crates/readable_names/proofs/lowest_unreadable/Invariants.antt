@@ -14,7 +14,7 @@ use Rattle.lookup.proofs.Searching.{Searching, searching_start, searching_next, 
 use Rattle.readable_names.proofs.lowest_unreadable.Given as goal
 
 abbrev pub invariant-loop-i : goal.invariant-loop-i
-invariant-loop-i l = Searching (broken l.class l.order l.symbols l.strings) l.initial.i l.count l.i
+invariant-loop-i l = Searching (λ i. not (readable_in l.class l.order l.symbols l.strings i)) l.initial.i l.count l.i
 
 abbrev pub decreases-loop-i : goal.decreases-loop-i
 decreases-loop-i l = l.count - l.i
