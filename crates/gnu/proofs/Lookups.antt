@@ -5,7 +5,7 @@
 -- Assumes nothing.
 use Prim.Native.Nat.{ℕ, ◌-◌, ◌%◌, ◌≤◌, ◌<◌}
 use mathlib.Core.Path.{◌≡◌, sym}
-use mathlib.Core.Bool.{Bool, true, false, not, ◌&&◌, and_false}
+use mathlib.Core.Bool.{Bool, true, false, not, ◌&&◌, and-false}
 use lib.Dec.{leb, eqb}
 use borrow.Author.Tests.{eqb-true, leb-true, eq-eqb, ne_eqb, le-leb, lt-leb}
 use Rattle.endian.specs.Refusals.{bad_bloom_shift}
@@ -27,13 +27,13 @@ module _ (t : GnuTable) (h : ℕ) where
     stops e = rw (ne_eqb t.bucket_count 0 buckets, value, e)
 
     pub start_past : t.count < v → start_of t h ≡ 0
-    start_past more = stops (rw (lt-leb v t.count more, and_false))
+    start_past more = stops (rw (lt-leb v t.count more, and-false))
 
     pub start_below : v < t.base → start_of t h ≡ 0
-    start_below less = stops (simp (lt-leb t.base v less, and_false))
+    start_below less = stops (simp (lt-leb t.base v less, and-false))
 
     pub start_values : t.value_count < v - t.base → start_of t h ≡ 0
-    start_values more = stops (simp (lt-leb (v - t.base) t.value_count more, and_false))
+    start_values more = stops (simp (lt-leb (v - t.base) t.value_count more, and-false))
 
     pub start_is : v ≤ t.count → t.base ≤ v → v - t.base ≤ t.value_count → start_of t h ≡ v
     unfolding start_of

@@ -1,0 +1,29 @@
+-- `gnu::walk::walk` meets its contract. Invariant: the pairs from i on, after so many probes, give the answer.
+-- Measure: the pairs left. Assumes nothing.
+use Prim.Native.Nat.{◌+◌, ◌-◌, ◌≤◌}
+use mathlib.Core.Path.{◌≡◌}
+use Rattle.lookup.specs.Pick.{from}
+use Rattle.lookup.specs.Wanted.{Parts, Asked}
+use Rattle.gnu_table.specs.Places.{pair_ends}
+use Rattle.gnu.specs.Walk.{pair_matches, walk_pairs}
+use Rattle.gnu.proofs.Walking.{walk_from}
+use Rattle.gnu.proofs.walk.walk.Given as goal
+
+abbrev pub invariant-loop-i : goal.invariant-loop-i
+invariant-loop-i l =
+    let parts : Parts = record {
+      table = l.table;
+      symbols = l.symbols;
+      strings = l.strings;
+      versyms = l.versyms;
+      store = l.store;
+      version_strings = l.version_strings;
+    } in
+    let asked : Asked = record { name = l.name; need = l.need; need_name = l.need_name } in
+    (l.start ≤ l.i) × (l.i ≤ l.end) × (l.start + l.probes ≡ l.i)
+    × (walk_from (pair_matches l.class l.order parts asked l.hash l.values_at l.base) (pair_ends l.order l.table l.values_at l.base) l.probes (from l.i (l.end - l.i))
+    ≡ walk_pairs l.class l.order parts asked l.hash l.values_at l.base l.start l.end)
+
+abbrev pub decreases-loop-i : goal.decreases-loop-i
+decreases-loop-i l =
+    l.end - l.i
