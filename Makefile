@@ -1,6 +1,9 @@
 # make run        proves and runs the program that shows the library at work
-# make test       everything: the gate and, beside it, the C and Rust tests of the archive and the comparison
-#                 with the original where it is at hand
+# make test       everything: what the pages say, the gate, and then the C and Rust tests of the archive and the
+#                 comparison with the original where it is at hand
+# make proved     proves all crates, over what earlier checks of them kept. Of some: rt check in a crate's folder, and
+#                 rt ci NAME.. here, as the gate does it
+# make archive    proves the library and builds the archive
 # make install    installs the archive, the header and the pkg-config file below PREFIX (/usr/local); DESTDIR is put
 #                 before it. The archive is proved and built first, unless it is there and nothing has changed since
 # make uninstall  takes them away
@@ -11,28 +14,10 @@
 
 ORACLE ?= ../shared/oracle
 CARGO := cargo
-# The crates with the exported functions.
-EXPORTS := bytes symbols notes versions version_match version_parse gnu_find sysv_find tables segments segment_data
+# The crates with the functions that C calls: the static libraries.
+EXPORTS := $(shell sed -n 's/^\([a-z0-9_]*\)  *staticlib *:.*/\1/p' crates.txt)
 ARCHIVE := target/staticlib/libfetulombo.a
 OBJECTS := target/archive
-FIRST := target/first
-SECOND := target/second
-HALF := $(shell expr $(words $(EXPORTS)) / 2)
-# What those crates are proved over.
-BELOW := $(sort $(shell sed -n 's/^export_[a-z_]*:\([^\#]*\).*/\1/p' crates.txt))
-
-# rt starts so many checks at once and waits for them all: with twice as many as processors none stands idle.
-export RT_JOBS ?= $(shell expr 2 \* $$(nproc))
-
-# While a check runs, the prover keeps some 100 MB in thousands of files. They go to memory, where there is room and
-# programs can be run from there (the gate runs those that it has proved).
-ifeq ($(TMPDIR),)
-MEMORY := $(shell d=/dev/shm; f=$$(mktemp -p $$d 2>/dev/null) && cp /bin/true $$f && chmod 700 $$f && $$f && \
-  [ $$(df --output=avail $$d | tail -n 1) -gt 4000000 ] && echo $$d; rm -f "$$f")
-ifneq ($(MEMORY),)
-export TMPDIR := $(MEMORY)
-endif
-endif
 
 # The archive is for x86-64. On another processor what links it is built by a cross compiler and run
 # under an emulator, where both are at hand.
@@ -75,15 +60,15 @@ not_run = echo "NOT RUN: $(1)" | tee -a "$${NOT_RUN:-/dev/null}"
 
 .PHONY: run test words proved archive install uninstall calls comparison record speed clean
 
-# Without an emulator of ours, on another processor, what rt has found the program to write is printed.
 run:
-	@echo "The program and what it needs are proved first: from a fresh clone about 3 minutes on two processors,"
-	@echo "a moment where nothing has changed since. What the prover says goes to target/run.log."
+	@echo "The program and what it needs are proved first: from a fresh clone in some minutes,"
+	@echo "in a moment where nothing has changed since. What the prover says goes to target/run.log."
 	@mkdir -p target
-	@rt check show >target/run.log 2>&1 || { tail -n 3 target/run.log; \
+	@cd crates/show && rt run >../../target/run.txt 2>../../target/run.log && \
+	  cmp ../../target/run.txt stdout >>../../target/run.log 2>&1 || { tail -n 3 ../../target/run.log; \
 	  echo "FAILED: the program is not proved, or did not write what it must. The whole is in target/run.log."; exit 1; }
 	@echo
-	@$(if $(TOOLS),$(EMULATOR) target/bin/show,cat crates/show/stdout)
+	@cat target/run.txt
 
 test:
 	tests/all
@@ -94,25 +79,19 @@ words:
 	tests/pages
 
 proved:
-	rt check $(BELOW)
+	rt all check
 
-# Each export crate is one object, in which the exported functions alone are global. Two rt in one folder would
-# disturb each other, so each half of them is built in a folder of its own; in target/ the gate may be at work
-# (tests/all), which has then proved what is below.
-archive: $(if $(BESIDE_GATE),,proved)
-	rm -rf $(OBJECTS) $(ARCHIVE) $(FIRST) $(SECOND)
+# Each static library is one object, in which the exported functions alone are global. It is for every x86-64, where
+# rt's own choice is for the newer ones.
+archive:
+	rm -rf $(OBJECTS) $(ARCHIVE)
 	mkdir -p $(OBJECTS) target/staticlib
-	for f in $(FIRST) $(SECOND); do \
-	  mkdir -p $$f/target && cp -r crates.txt crates $$f && cp -r target/rlib target/stamp $$f/target || exit; done
-	set -e; build() { cd $$1; shift; for e in "$$@"; do rt staticlib export_$$e || return; done; }; \
-	  (build $(SECOND) $(wordlist 1,$(HALF),$(EXPORTS))) & second=$$!; \
-	  (build $(FIRST) $(filter-out $(wordlist 1,$(HALF),$(EXPORTS)),$(EXPORTS))); wait $$second
-	cp $(FIRST)/target/staticlib/*.a $(SECOND)/target/staticlib/*.a target/staticlib
-	cd $(OBJECTS) && for e in $(EXPORTS); do $(AR) x ../staticlib/libexport_$$e.a || exit; done
-	$(AR) rcs $(ARCHIVE) $(EXPORTS:%=$(OBJECTS)/export_%.o)
+	for e in $(EXPORTS); do (cd crates/$$e && rt lib --cpu x86-64) || exit; done
+	cd $(OBJECTS) && for e in $(EXPORTS); do $(AR) x ../../crates/$$e/out/lib$$e.a || exit; done
+	$(AR) rcs $(ARCHIVE) $(EXPORTS:%=$(OBJECTS)/%.o)
 
 # For `make install`: the archive that is there, unless a crate or this file has changed since.
-$(ARCHIVE): Makefile crates.txt $(shell find crates -name '*.rt' -o -name '*.antt')
+$(ARCHIVE): Makefile crates.txt $(shell find crates -name out -prune -o \( -name '*.rt' -o -name '*.antt' \) -print)
 	$(MAKE) --no-print-directory archive
 
 install: $(ARCHIVE)
@@ -140,6 +119,9 @@ calls: archive
 	fixtures/lot/make --check
 
 ifneq ($(wildcard $(ORACLE)/Cargo.toml),)
+# Builds with the original, to which cargo is led by a link. It is taken away again: rt wants a checkout without links.
+with_original = ln -sfn $(abspath $(ORACLE)) compare/oracle && { $(1); built=$$?; rm -f compare/oracle; exit $$built; }
+
 # Under an emulator, an eighth of the random inputs.
 comparison: $(COMPARE)
 	$(EMULATOR) $(COMPARE) $(if $(EMULATOR),--short)
@@ -151,8 +133,7 @@ record: $(COMPARE)
 # A time under an emulator says nothing.
 ifeq ($(EMULATOR),)
 speed: archive
-	ln -sfn $(abspath $(ORACLE)) compare/oracle
-	$(CARGO) build --offline --quiet --profile speed --manifest-path compare/Cargo.toml
+	$(call with_original,$(CARGO) build --offline --quiet --profile speed --manifest-path compare/Cargo.toml)
 	compare/target/speed/compare --speed
 else
 speed:
@@ -162,8 +143,7 @@ endif
 
 .PHONY: $(COMPARE)
 $(COMPARE): archive
-	ln -sfn $(abspath $(ORACLE)) compare/oracle
-	$(CARGO) build --offline --quiet --release --manifest-path compare/Cargo.toml
+	$(call with_original,$(CARGO) build --offline --quiet --release --manifest-path compare/Cargo.toml)
 else
 comparison record speed:
 	@$(call not_run,$@ (the original is not at hand: $(ORACLE)))
@@ -176,4 +156,4 @@ calls comparison record speed:
 endif
 
 clean:
-	rm -rf target rust/target compare/target compare/oracle
+	rm -rf target rust/target compare/target compare/oracle crates/*/out

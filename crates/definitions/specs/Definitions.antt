@@ -1,7 +1,7 @@
 -- The definitions of a name, among all symbols.
 --     is_defined        whether a symbol that was looked for is there and is not undefined
---     has_no_version     whether a versym says that the definition has no version: its index is special
---     meant            whether a definition with this versym is one of those that are meant
+--     has_no_version    whether a versym says that the definition has no version: its index is special
+--     meant             whether a definition with this versym is one of those that are meant
 --     defines_in        whether a symbol bears the name, is not undefined, and is one of those that are meant
 --     count_in          how many of the numbers 1 to n - 1 pass a test
 --     definitions_of    how many symbols but the null one are such definitions

@@ -1,6 +1,6 @@
 -- The size limit, and the refusals by their numbers, in the order of document 01's table, "Refusals".
 --     limit, any_long    the most bytes that a lent part may have, and whether one of several has more
---     refusal           the refusal of a number
+--     refusal            the refusal of a number
 --     unless_refused     the refusal, where there is one, or else the answer
 --     too_long, …        each of them, under its name
 -- Assumes nothing.

@@ -1,10 +1,10 @@
 -- What the numbers of class and order come to. Assumes nothing.
---     kinds, pairs         1 and 2 are kinds, and 0, 3 and 255 are none; of two numbers both must be
---     classes, orders      which class and which order 1 and 2 are
+--     kinds, pairs          1 and 2 are kinds, and 0, 3 and 255 are none; of two numbers both must be
+--     classes, orders       which class and which order 1 and 2 are
 --     kind_refusal_parts    the refusal is 1 where a part is too long, and else 39
---     unknown_long         so is an answer's where a number is no kind, whatever it would be: 1 with a part that is too long
---     unknown_short        and 39 with none
---     known                where the numbers are kinds, the answer is what it would be
+--     unknown_long          so is an answer's where a number is no kind, whatever it would be: 1 with a part that is too long
+--     unknown_short         and 39 with none
+--     known                 where the numbers are kinds, the answer is what it would be
 use Prim.Native.Nat.{ℕ}
 use mathlib.Core.Path.{◌≡◌, refl, ap, ◌∙◌}
 use mathlib.Core.Bool.{Bool, true, false, cond}

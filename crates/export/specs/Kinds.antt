@@ -1,9 +1,9 @@
 -- Class and order as C passes them: ELF's own numbers, as e_ident[4] and e_ident[5] hold them (gABI, "ELF Identification").
 --     is_kind, are_kinds    whether a number is that of a class or an order; whether two are, of a class and of an order
 --     class_of, order_of    the class and the order of such a number; what any other number stands for is never asked
---     unless_long          the refusal of a part that is too long, or else the one that is given
---     kind_refusal         the refusal of a number that is no kind
---     unless_unknown       the answer, or that refusal where the numbers are no kinds
+--     unless_long           the refusal of a part that is too long, or else the one that is given
+--     kind_refusal          the refusal of a number that is no kind
+--     unless_unknown        the answer, or that refusal where the numbers are no kinds
 -- Assumes nothing.
 use Rattle.std.specs.Prelude.{ℕ, Bool, cond, ◌&&◌, ◌||◌, eqb, ltb, length}
 use mathlib.Core.List.{List, foldr}

@@ -1,5 +1,5 @@
 -- A segment of the numbers that C passes, and a part of the file as C gets it.
---     entry           a segment of these numbers; the others are 0
+--     entry            a segment of these numbers; the others are 0
 --     no_part, part    no part of the file, and one
 -- Assumes nothing.
 use Rattle.std.specs.Prelude.{ℕ}

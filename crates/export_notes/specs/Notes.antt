@@ -1,8 +1,8 @@
 -- The answers about notes as C gets them: the number of a refusal, or 0, and the values of each case; what a case lacks is 0.
 --     no_note, note_answer    of `NoteStep`; next is the place of the reader after the step
---     no_reader              a refusal for which there is no reader: next is the end
+--     no_reader               a refusal for which there is no reader: next is the end
 --     note_step_answer        a step at a place, by the numbers of order and alignment
---     trimmed_answer         the length of a trimmed name
+--     trimmed_answer          the length of a trimmed name
 -- Assumes nothing.
 use Rattle.std.specs.Prelude.{ℕ, cond, List, [], ◌∷◌, length}
 use Rattle.endian.specs.declared.refusals.Refusal.{Refusal}

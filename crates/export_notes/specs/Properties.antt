@@ -1,11 +1,11 @@
 -- The answers about GNU properties as C gets them: the number of a refusal, or 0, and the values of each case; what a case lacks is 0.
---     kind_answer                    of `GnuProperties`: 1 if the note is of this kind
+--     kind_answer                     of `GnuProperties`: 1 if the note is of this kind
 --     gnu_properties_answer           whether a note is, by the numbers of class and order
---     property_reader                a property reader at a place
+--     property_reader                 a property reader at a place
 --     no_property, property_answer    of `PropertyStep`; next is the place of the reader after the step
---     no_reader                      a refusal for which there is no reader: next is the end
+--     no_reader                       a refusal for which there is no reader: next is the end
 --     property_step_answer            a step at a place, by the numbers of class and order
---     number_answer                  of `PropertyNumber`
+--     number_answer                   of `PropertyNumber`
 --     property_number_answer          a property's number, by the order's number
 -- Assumes nothing.
 use Rattle.std.specs.Prelude.{ℕ, List, [], ◌∷◌, length}

@@ -1,7 +1,7 @@
 -- The answers about a segment's dynamic entries as C gets them: the number of a refusal, or 0, and the values of each case; what a case lacks is 0.
---     dynamic_answer           of `SegmentDynamic`: number is how many entries there are
+--     dynamic_answer            of `SegmentDynamic`: number is how many entries there are
 --     segment_dynamic_answer    where a segment's entries stand, by the class's number
---     entry_answer             of `DynamicEntryAt`
+--     entry_answer              of `DynamicEntryAt`
 --     dynamic_entry_answer      the entry of a number, by the numbers of class and order
 -- Assumes nothing.
 use Rattle.std.specs.Prelude.{ℕ, List, [], ◌∷◌}

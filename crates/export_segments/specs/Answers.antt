@@ -1,10 +1,10 @@
 -- The answers about segments as C gets them: the number of a refusal, or 0, and the values of each case; what a case lacks is 0.
---     count_answer           of `SegmentCount`
+--     count_answer            of `SegmentCount`
 --     segment_count_answer    how many segments there are, by the class's number
---     segment_answer         of `SegmentAt`
+--     segment_answer          of `SegmentAt`
 --     segment_at_answer       the segment of a number, by the numbers of class and order
---     entry                 a segment of this type and these flags
---     kind_number, facts     of `SegmentKind`, by the gABI's number of the type; and with the permissions
+--     entry                   a segment of this type and these flags
+--     kind_number, facts      of `SegmentKind`, by the gABI's number of the type; and with the permissions
 -- Assumes nothing.
 use Rattle.std.specs.Prelude.{ℕ, List, [], ◌∷◌}
 use Rattle.segment_entry.specs.Entry.{kind_of, permissions_of}

@@ -1,6 +1,6 @@
 -- The answers about a symbol's fields as C gets them: document 01's number of a refusal, or 0, and the values of each case; what a case lacks is 0.
 --     definition_answer    of `Definition`
---     entry, facts        a symbol with these fields, and what they say
+--     entry, facts         a symbol with these fields, and what they say
 -- Assumes nothing.
 use Rattle.std.specs.Prelude.{ℕ}
 use Rattle.symbol_entry.specs.declared.Symbol.{Symbol}

@@ -1,6 +1,6 @@
 -- The answers about symbols as C gets them: the number of a refusal, or 0, and the values of each case; what a case lacks is 0.
---     count_answer          of `SymbolCount`
---     symbol_answer         of `SymbolAt`
+--     count_answer           of `SymbolCount`
+--     symbol_answer          of `SymbolAt`
 --     symbol_count_answer    how many symbols there are, by the class's number
 --     symbol_at_answer       the symbol of a number, by the numbers of class and order
 --     symbol_name_answer     its name

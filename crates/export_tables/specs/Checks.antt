@@ -1,7 +1,7 @@
 -- The answers of the checkers as C gets them: the number of a refusal, or 0, and the values of each case; what a case lacks is 0.
---     gnu_checked         of the GNU checker's `Checked`
+--     gnu_checked          of the GNU checker's `Checked`
 --     gnu_check_answer     what it says of a table, by the numbers of class and order
---     sysv_checked        of the SysV checker's
+--     sysv_checked         of the SysV checker's
 --     sysv_check_answer    what it says, likewise
 -- Assumes nothing.
 use Rattle.std.specs.Prelude.{ℕ, List, [], ◌∷◌}

@@ -1,9 +1,9 @@
 -- The answers about the symbol table, from a hash table, as C gets them: the number of a refusal, or 0, and the values of each case; what a case lacks is 0.
---     base_answer          of `HeaderAt`: the number of the first hashed symbol
+--     base_answer           of `HeaderAt`: the number of the first hashed symbol
 --     gnu_base_answer       that of a GNU table, by the numbers of class and order
---     length_answer        of `TableLength`: known is 0 where the table says nothing of it
+--     length_answer         of `TableLength`: known is 0 where the table says nothing of it
 --     gnu_length_answer     the length from a GNU table, by the numbers of class and order
---     chains_answer        of `ChainCount`
+--     chains_answer         of `ChainCount`
 --     sysv_length_answer    the length from a SysV table, by the order's number
 -- Assumes nothing.
 use Rattle.std.specs.Prelude.{ℕ, List, [], ◌∷◌}

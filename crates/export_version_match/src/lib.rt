@@ -23,8 +23,7 @@ pub fn need_of(needed: u8, hash: u32) -> Need
 
 // Whether the version of a symbol is the one that is needed. Refused in this order: versyms, strings or
 // a name that is too long; a number that is no order.
-#[unsafe(no_mangle)]
-pub extern "C" fn fetulombo_version_matches(
+pub fn fetulombo_version_matches(
     order: u8,
     versyms: &[u8],
     store: &[u32],

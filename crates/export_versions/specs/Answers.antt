@@ -1,7 +1,7 @@
 -- The answers about versions as C gets them: the number of a refusal, or 0, and the values of each case; what a case lacks is 0.
---     version_index                the value behind a number that C passes
+--     version_index                 the value behind a number that C passes
 --     no_version, version_answer    of `EntryAt`
---     versym_answer                of `VersymAt`
+--     versym_answer                 of `VersymAt`
 --     version_of_answer             the version of a symbol, by the order's number
 -- Assumes nothing.
 use Rattle.std.specs.Prelude.{ℕ, List, [], ◌∷◌}

@@ -1,5 +1,5 @@
 -- A lookup by what was read of its parts.
---     filter_any         the bloom filter does not ask how many symbols there are
+--     filter_any              the bloom filter does not ask how many symbols there are
 --     find_by, find_by_lem    the lookup, by whether a part that is only compared is too long, the symbols and the header
 -- Assumes nothing.
 use Prim.Native.Nat.{ℕ}

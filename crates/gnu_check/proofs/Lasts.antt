@@ -1,6 +1,6 @@
 -- Where G9 holds, a bucket's symbols are one run, so its last symbol is the last of the run, and the longest chain is the
 -- longest run.
---     last_of_run_lem                G10 may look at the next symbol alone
+--     last_of_run_lem                 G10 may look at the next symbol alone
 --     longest_run, longest_run_lem    the longest run, or 0, is the longest chain
 -- Assumes nothing.
 use mathlib.Core.Path.{◌≡◌, refl, sym, ap, ◌∙◌}

@@ -1,9 +1,9 @@
 -- The least number of which something holds, if there is one.
---     Least           what it says of an answer
---     least_unique    there is one such answer
---     least_map       of two facts that imply each other it is the same
---     lesser_least    of either of two facts it is the lesser
---     first_of_least   the first of the numbers below n that passes is the least
+--     Least             what it says of an answer
+--     least_unique      there is one such answer
+--     least_map         of two facts that imply each other it is the same
+--     lesser_least      of either of two facts it is the lesser
+--     first_of_least    the first of the numbers below n that passes is the least
 -- Assumes nothing.
 use mathlib.Core.Path.{◌≡◌, refl, sym, ap, ◌∙◌}
 use mathlib.Core.Bool.{Bool, true, false, true≢false}

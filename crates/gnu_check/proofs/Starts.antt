@@ -1,10 +1,10 @@
 -- A bucket keeps G9 exactly if it holds 0 or the start of a run of its own, and the bucket of each of its symbols holds the
 -- start of its run.
---     Start, start_of             where the run of a symbol starts, and that `run_start` says so; a run has one start
+--     Start, start_of               where the run of a symbol starts, and that `run_start` says so; a run has one start
 --     plain_begins, plain_stray     a symbol is the first of a run of a bucket; a bucket holds neither 0 nor such a symbol
---     begins_start, start_begins  what `plain_begins` decides
---     Right                       what the passes ask of a bucket
---     right_kept, kept_right      it is G9
+--     begins_start, start_begins    what `plain_begins` decides
+--     Right                         what the passes ask of a bucket
+--     right_kept, kept_right        it is G9
 -- Assumes nothing.
 use mathlib.Core.Path.{◌≡◌, refl, sym, ap, ◌∙◌, subst, subst₂}
 use mathlib.Core.Bool.{Bool, true, false, not, ◌&&◌, ◌||◌, false≢true, and-false}

@@ -1,6 +1,6 @@
 -- Both passes together find the lowest bucket that breaks G9: a bucket breaks it exactly if it is stray or has a misplaced
 -- symbol.
---     Amiss          a misplaced symbol of a bucket
+--     Amiss              a misplaced symbol of a bucket
 --     least_wrong_lem    after G7, `least_wrong` is the lowest bucket that breaks G9
 -- Assumes nothing.
 use mathlib.Core.Path.{◌≡◌, refl, sym, ap, ◌∙◌, subst}

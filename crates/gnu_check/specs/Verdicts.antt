@@ -1,6 +1,6 @@
 -- Need not be believed: the checker's answer from G6 on and from G9 on. Contracts of inner functions cite it, and proofs show
 -- that it is what is left of `gnu_table_check`.
---     Sound          what the passes ask of a table that keeps G1 to G5
+--     Sound           what the passes ask of a table that keeps G1 to G5
 --     from_names      the answer from G6 on
 --     from_buckets    the answer from G9 on
 -- Assumes nothing.

@@ -1,5 +1,5 @@
 -- The pass over the runs, turn by turn: its invariant, and the laws of that.
---     Passing                     the pass for misplaced symbols, at symbol i: what it knows of the symbol before, and that the rest gives
+--     Passing    the pass for misplaced symbols, at symbol i: what it knows of the symbol before, and that the rest gives
 --                 the answer
 --     passing_start, passing_next, passing_end
 --     least_bound, lesser_both    the lower of two answers, each a bucket or the number of buckets

@@ -1,14 +1,14 @@
 -- Need not be believed: G9 by runs of neighbours in one bucket, as one pass over the symbols and one over the buckets see
 -- them. After G7 it is G9 itself: `Wrong.least_wrong_lem` of `gnu_check`.
---     lesser           the lesser of two numbers, where there are any
---     may_be            by its value alone, a symbol may be of a bucket
---     run_start         the start of the run of equal buckets that a hashed symbol is in, by how far it is past symbol_base
---     misplaced        a symbol whose bucket does not hold the start of its run
---     begins           a symbol is the start of a run of a bucket, and by its value may be of it
---     stray            a bucket that holds neither 0 nor such a symbol
---     least_misplaced   the lowest bucket of a misplaced symbol
---     least_wrong       the lowest bucket that is stray, or that a misplaced symbol is in
---     wrong_bucket      the same, or the number of buckets
+--     lesser             the lesser of two numbers, where there are any
+--     may_be             by its value alone, a symbol may be of a bucket
+--     run_start          the start of the run of equal buckets that a hashed symbol is in, by how far it is past symbol_base
+--     misplaced          a symbol whose bucket does not hold the start of its run
+--     begins             a symbol is the start of a run of a bucket, and by its value may be of it
+--     stray              a bucket that holds neither 0 nor such a symbol
+--     least_misplaced    the lowest bucket of a misplaced symbol
+--     least_wrong        the lowest bucket that is stray, or that a misplaced symbol is in
+--     wrong_bucket       the same, or the number of buckets
 -- Assumes nothing.
 use Rattle.std.specs.Prelude.{ℕ, zero, suc, ◌+◌, ◌-◌, ◌*◌, ◌/◌, ◌%◌, min, Bool, cond, not, ◌&&◌, ◌||◌, leb, ltb, eqb}
 use Rattle.std.proofs.Math.Option.{Option, some, none, get_or}

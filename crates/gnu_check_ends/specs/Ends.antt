@@ -1,11 +1,11 @@
 -- Need not be believed: G10 and the longest chain by runs of neighbours in one bucket, as one pass over the symbols sees them.
 -- After G9 it is G10 itself, and the longest chain: `Judged.from_buckets_10` and `from_buckets_accepted` of `gnu_check`.
---     last_in           the next symbol is of another bucket, or there is none
---     last_of_run        the same in a table
---     ends_run          low bit 1 exactly at the last symbol of a run
---     wrong_end         the lowest hashed symbol whose low bit is wrong, or the number of symbols
---     chain_start       the start of the chain that a hashed symbol is in, by the low bits and how far it is past symbol_base
---     longest_chain     the longest chain, by the low bits, or 0
+--     last_in          the next symbol is of another bucket, or there is none
+--     last_of_run      the same in a table
+--     ends_run         low bit 1 exactly at the last symbol of a run
+--     wrong_end        the lowest hashed symbol whose low bit is wrong, or the number of symbols
+--     chain_start      the start of the chain that a hashed symbol is in, by the low bits and how far it is past symbol_base
+--     longest_chain    the longest chain, by the low bits, or 0
 -- Assumes nothing.
 use Rattle.std.specs.Prelude.{ℕ, zero, suc, ◌+◌, ◌-◌, ◌%◌, Bool, cond, not, ◌&&◌, List, map, ltb, eqb}
 use Rattle.std.specs.Bool.{beq}

@@ -1,8 +1,8 @@
 -- The length of the symbol table, step by step.
---     highest_start, highest_step, highest_end                 the highest bucket value, from a bucket on
---     chain_hit, chain_on, chain_end                           the first symbol whose value has low bit 1, from a symbol on
---     length_base, length_buckets, length_below, length_is     the length, a law for each answer
---     length_by, length_by_lem                                      the length, by the header
+--     highest_start, highest_step, highest_end                the highest bucket value, from a bucket on
+--     chain_hit, chain_on, chain_end                          the first symbol whose value has low bit 1, from a symbol on
+--     length_base, length_buckets, length_below, length_is    the length, a law for each answer
+--     length_by, length_by_lem                                the length, by the header
 -- Assumes nothing.
 use Prim.Native.Nat.{ℕ, ◌+◌, ◌-◌, ◌≤◌, ◌<◌, max}
 use mathlib.Core.Path.{◌≡◌, refl}

@@ -1,8 +1,8 @@
 -- What the checker's word `accepted` says, rule by rule. Assumes nothing.
---     Rules                       every rule, as a fact
---     whole_none, lowest_none     what it says that a rule is broken nowhere
---     accepted_longest            the number that is given is the longest chain
---     rules                       an accepted table keeps every rule
+--     Rules                      every rule, as a fact
+--     whole_none, lowest_none    what it says that a rule is broken nowhere
+--     accepted_longest           the number that is given is the longest chain
+--     rules                      an accepted table keeps every rule
 use Prim.Native.Nat.{ℕ, suc, ◌+◌, ◌-◌, ◌^◌, ◌≤◌, ◌<◌}
 use mathlib.Core.Path.{◌≡◌, refl}
 use mathlib.Core.Bool.{Bool, true, false, not}

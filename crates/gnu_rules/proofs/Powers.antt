@@ -1,5 +1,5 @@
 -- Whether a number is a power of two, by a search among the powers.
---     is_power                    it is the k-th
+--     is_power                   it is the k-th
 --     power_found, power_none    what the search says
 --     shifted                    a 1 that is shifted within 32 bits
 -- Assumes nothing.

@@ -2,11 +2,11 @@
 -- promise in any table.
 --     probes_of             how many probes an answer says were made
 --     symbol_base           the header's second word
---     LowestMatch          a symbol is the lowest match, from symbol_base on and below n
+--     LowestMatch           a symbol is the lowest match, from symbol_base on and below n
 --     pairs_read, walked    the pairs of document 01's walk
---     Demand3              the demand's sentence, of an answer and the longest chain
---     Demand3Holds         the theorem: in an accepted table every lookup keeps it; `demand_3` in proofs/Demand3 proves it
---     Demand3Last          the demand's last sentence, as a theorem: `demand_3_last` there proves it
+--     Demand3               the demand's sentence, of an answer and the longest chain
+--     Demand3Holds          the theorem: in an accepted table every lookup keeps it; `demand_3` in proofs/Demand3 proves it
+--     Demand3Last           the demand's last sentence, as a theorem: `demand_3_last` there proves it
 -- Assumes nothing.
 use Rattle.std.specs.Prelude.{ℕ, ◌≤◌, ◌<◌, ◌≡◌, false, cond, ◌&&◌, List, [], ◌∷◌, ◌↔◌, eqb, length}
 use Rattle.endian.specs.declared.kinds.Class.{Class}

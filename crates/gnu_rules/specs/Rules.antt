@@ -1,19 +1,19 @@
 -- The GNU checker (01, "GNU checker"): n symbols, hashed ones symbol_base to n - 1.
 --     gnu_hash_at, gnu_bucket_of, members    the hash of a symbol's name, its bucket, the hashed symbols of a bucket
---     base_within                         G1
---     power_of_two                         G2
---     some_bucket                         G3
---     shift_within                        G4
---     enough_values                       G5
---     name_readable                       G6, of a symbol
---     value_is_hash                        G7, of a symbol
---     bloom_bits_set                       G8, of a symbol
---     bucket_right                        G9, of a bucket
---     ends_at_last                         G10, of a symbol
---     findings                           where each rule is broken, in order
---     longest                            the longest chain
---     gnu_table_check                      what the checker gives of a table
---     gnu_check                           the same of the bytes: part too long (1), the table's places (26 to 28), then the rules
+--     base_within                            G1
+--     power_of_two                           G2
+--     some_bucket                            G3
+--     shift_within                           G4
+--     enough_values                          G5
+--     name_readable                          G6, of a symbol
+--     value_is_hash                          G7, of a symbol
+--     bloom_bits_set                         G8, of a symbol
+--     bucket_right                           G9, of a bucket
+--     ends_at_last                           G10, of a symbol
+--     findings                               where each rule is broken, in order
+--     longest                                the longest chain
+--     gnu_table_check                        what the checker gives of a table
+--     gnu_check                              the same of the bytes: part too long (1), the table's places (26 to 28), then the rules
 -- Assumes nothing.
 use Rattle.std.specs.Prelude.{ℕ, suc, ◌-◌, ◌%◌, ◌^◌, Bool, cond, not, ◌&&◌, List, [], ◌∷◌, map, leb, eqb, length}
 use Rattle.std.specs.Bool.{beq}

@@ -1,10 +1,10 @@
 -- The header of a GNU table, and where its parts stand in its bytes (01, "Layouts" and "Lookups"): header, bloom words,
 -- buckets, values to the end.
---     word_size              the bytes of a bloom word
---     buckets_at, values_at   where the buckets start, and the values
---     layout_of              the header's numbers and the places
---     gnu_fault              refusal 26, 27 or 28, where the header, the bloom words or the buckets are not whole
---     gnu_header             of the bytes: part too long (1), the places (26 to 28), then the layout
+--     word_size                the bytes of a bloom word
+--     buckets_at, values_at    where the buckets start, and the values
+--     layout_of                the header's numbers and the places
+--     gnu_fault                refusal 26, 27 or 28, where the header, the bloom words or the buckets are not whole
+--     gnu_header               of the bytes: part too long (1), the places (26 to 28), then the layout
 -- Assumes nothing.
 use Rattle.std.specs.Prelude.{ℕ, ◌+◌, ◌-◌, ◌*◌, ◌/◌, cond, List, ltb, length}
 use Rattle.std.proofs.Math.Option.{Option, some, none}

@@ -1,5 +1,5 @@
 -- The table of the bytes, over its symbols (01, "Layouts").
---     table_with     the table that a layout says, over its symbols and so many of them
+--     table_with      the table that a layout says, over its symbols and so many of them
 --     gnu_table_of    the table that the header's layout says
 -- Assumes nothing.
 use Rattle.std.specs.Prelude.{ℕ, ◌+◌, ◌*◌, List}

@@ -1,9 +1,9 @@
 -- Need not be believed: parts of a table, by places in its bytes. Contracts of inner functions cite them, and proofs show that
 -- they are the table's.
---     table_at       the table that a layout says, without symbols; a lookup asks for no names of it
---     bloom_word_at   the bloom word of a hash
---     value_at       the value that belongs to a symbol
---     pair_ends      whether a symbol's pair ends the chain
+--     table_at         the table that a layout says, without symbols; a lookup asks for no names of it
+--     bloom_word_at    the bloom word of a hash
+--     value_at         the value that belongs to a symbol
+--     pair_ends        whether a symbol's pair ends the chain
 -- Assumes nothing.
 use Rattle.std.specs.Prelude.{ℕ, ◌+◌, ◌-◌, ◌*◌, ◌/◌, Bool, List, []}
 use Rattle.std.specs.Int.Bits.{bit_and}

@@ -1,10 +1,10 @@
 -- A GNU hash table over its symbols, as numbers and functions, and what its bloom filter says.
 -- Source: the published GNU hash convention; 01, "Lookups", for what it leaves open.
---     GnuTable                   the table, its symbols' names and how many symbols there are
+--     GnuTable                     the table, its symbols' names and how many symbols there are
 --     bit, odd, same_but_low       a bit of a word; the low bit; equal but for the low bit
---     hashed, value_of            the hashed symbols; the value that belongs to one
+--     hashed, value_of             the hashed symbols; the value that belongs to one
 --     bloom_first, bloom_second    the two tests of the bloom filter
---     bloom_filter                whether the bloom filter lets a hash pass
+--     bloom_filter                 whether the bloom filter lets a hash pass
 -- Assumes nothing.
 use Rattle.std.specs.Prelude.{ℕ, ◌-◌, ◌/◌, ◌%◌, ◌^◌, Bool, cond, not, List, ltb, eqb}
 use Rattle.std.proofs.Math.Option.{Option}

@@ -1,6 +1,6 @@
 -- The name of a symbol, by the record that stands at its number. Assumes nothing.
 --     name_at, name_none    its bytes: those of the record's string, and none where there is no record
---     named_at_lem              whether it is a name: what the record's string says, and no where there is no record
+--     named_at_lem          whether it is a name: what the record's string says, and no where there is no record
 use Prim.Native.Nat.{ℕ}
 use mathlib.Core.Path.{◌≡◌, refl, sym, ap, ◌∙◌}
 use mathlib.Core.Bool.{Bool, false}

@@ -1,12 +1,12 @@
 -- Laws of `Pick`, for both hash tables.
---     by-test, and_left, and_right, not_none, beq_eq, test_ext, either    tests and sums taken apart
---     All, all_map, all_from, from_all              every element of a list; of a run of numbers, each of them
---     length_from, from-append, from_cons           a run of numbers
---     largest-le, largest_upper                     the largest is no less than each, and no more than a bound of all
---     all-select, select-all, select-append, select_none, select_front    what was selected
+--     by-test, and_left, and_right, not_none, beq_eq, test_ext, either                               tests and sums taken apart
+--     All, all_map, all_from, from_all                                                               every element of a list; of a run of numbers, each of them
+--     length_from, from-append, from_cons                                                            a run of numbers
+--     largest-le, largest_upper                                                                      the largest is no less than each, and no more than a bound of all
+--     all-select, select-all, select-append, select_none, select_front                               what was selected
 --     first_of_none, none_first_of, first_of_passes, first_of_hit, first_of_select, first_of_cong    what was found, and what that says
---     Lowest, first_of_lowest                        the first of a run is its lowest
---     length_up_to, up_to_from                        the front up to the first
+--     Lowest, first_of_lowest                                                                        the first of a run is its lowest
+--     length_up_to, up_to_from                                                                       the front up to the first
 -- Assumes nothing.
 use mathlib.Core.Path.{◌≡◌, refl, sym, ap, ◌∙◌, subst}
 use mathlib.Core.Bool.{Bool, true, false, not, ◌&&◌, beq, true≢false}

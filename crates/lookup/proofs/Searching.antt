@@ -1,6 +1,6 @@
 -- A loop that looks for the first number from a on and below e that passes a test: its invariant, and the invariant's four
 -- laws.
---     Searching        at i: the first from here on is the first of all
+--     Searching    at i: the first from here on is the first of all
 --     searching_start, searching_next, searching_here, searching_end
 --     first-le                  the answer is no more than e
 --     first_none, first_some    what the answer says of the search

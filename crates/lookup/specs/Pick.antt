@@ -1,9 +1,9 @@
 -- Picking from lists, for both hash tables.
---     from       k numbers from a on, in order
---     select     the elements that pass a test, in order
+--     from        k numbers from a on, in order
+--     select      the elements that pass a test, in order
 --     first_of    the first element that passes a test, or none
 --     up_to       the front of a list up to and with the first element that passes, or the whole list
---     largest    the largest element, or 0
+--     largest     the largest element, or 0
 --     is_none     whether nothing is there
 -- Assumes nothing.
 use Rattle.std.specs.Prelude.{ℕ, zero, suc, max, Bool, true, false, cond}

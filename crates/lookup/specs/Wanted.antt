@@ -1,11 +1,11 @@
 -- A lookup over a list of symbol numbers: what is lent, what is asked for, and the first that is wanted (01, "Lookups").
---     Parts         the lent parts
---     Asked         the name, and the version that is needed
---     all_parts      every part and every name that a lookup is lent
---     name_of        the bytes of a symbol's name, or none where there is no such symbol or its name cannot be read
---     is_named       whether that is a name; one that cannot be read never is
---     wanted        whether a symbol has the name and the version that are asked for; `wanted_in` of the parts that this looks at
---     walk          the first match on a list of numbers, and how many of them were tested
+--     Parts        the lent parts
+--     Asked        the name, and the version that is needed
+--     all_parts    every part and every name that a lookup is lent
+--     name_of      the bytes of a symbol's name, or none where there is no such symbol or its name cannot be read
+--     is_named     whether that is a name; one that cannot be read never is
+--     wanted       whether a symbol has the name and the version that are asked for; `wanted_in` of the parts that this looks at
+--     walk         the first match on a list of numbers, and how many of them were tested
 -- Assumes nothing.
 use Rattle.std.specs.Prelude.{ℕ, Bool, false, ◌&&◌, List, [], ◌∷◌, length, take, drop}
 use Rattle.std.proofs.Math.Option.{Option, some, none}

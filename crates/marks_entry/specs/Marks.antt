@@ -1,6 +1,6 @@
 -- What the fields of a found symbol say against signing an import.
---     is_hidden        whether a visibility is that of a symbol that no other file sees
---     entry_marks      what the fields say
+--     is_hidden         whether a visibility is that of a symbol that no other file sees
+--     entry_marks       what the fields say
 --     any_entry_mark    whether one of these marks holds
 -- Assumes nothing.
 use Rattle.std.specs.Prelude.{ℕ, Bool, ◌||◌, eqb}

@@ -1,6 +1,6 @@
 -- Need not be believed: whether the string at the front of bytes is a name. Inner contracts cite it.
---     text        what stands before the first zero
---     reads       whether a zero is there, and what stands before it is the name
+--     text     what stands before the first zero
+--     reads    whether a zero is there, and what stands before it is the name
 -- Assumes nothing.
 use Rattle.std.specs.Prelude.{ℕ, Bool, ◌&&◌, List, take}
 use Rattle.endian.specs.First.{first, is_zero, readable, same}

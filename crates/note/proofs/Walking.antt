@@ -1,11 +1,11 @@
 -- Stepping from a reader on gives the list of notes: each note moves the place by at least 12, so that the length is steps enough.
---     Seen, seen, seen_step      what each answer of a step says of the reader after it
---     refused_stays, end_stays   a reader at its end stays there
---     within_enough              more steps than there are bytes left change nothing
+--     Seen, seen, seen_step       what each answer of a step says of the reader after it
+--     refused_stays, end_stays    a reader at its end stays there
+--     within_enough               more steps than there are bytes left change nothing
 --     notes_from_step             the list, from the step's answer and the list of the reader after it
---     stepping                   stepping gives the list
---     stepping_only              and no other
---     section_stepping           stepping from the start of a section gives the section's list
+--     stepping                    stepping gives the list
+--     stepping_only               and no other
+--     section_stepping            stepping from the start of a section gives the section's list
 -- Assumes nothing.
 use Prim.Native.Nat.{ℕ, zero, suc, ◌+◌, ◌-◌, ◌<◌, ◌≤◌}
 use mathlib.Core.Path.{◌≡◌, refl, sym, ap, ◌∙◌, subst}

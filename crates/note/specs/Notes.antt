@@ -1,13 +1,13 @@
 -- Notes, as document 01 (module 4, "Layouts") and the gABI ("Note Section") have them.
 -- A note's own places are in the lent bytes; all else is counted from the note's own start.
---     align_size, aligned               the bytes of an alignment, and its first multiple that is no less than a number
---     reader_for                        the reader before the first note, by the alignment's number
---     to                               the same reader at another place
---     namesz, descsz                   the first two fields of the header: the sizes of name and descriptor
---     name_end                          where the name ends: it starts at 12
+--     align_size, aligned                the bytes of an alignment, and its first multiple that is no less than a number
+--     reader_for                         the reader before the first note, by the alignment's number
+--     to                                 the same reader at another place
+--     namesz, descsz                     the first two fields of the header: the sizes of name and descriptor
+--     name_end                           where the name ends: it starts at 12
 --     descriptor_from, descriptor_end    where the descriptor starts, at the aligned end of the name, and where it ends
---     note_next                         where the next note starts, at the aligned end of the descriptor
---     note_of                           the note at a reader's place; its type is the header's third field
+--     note_next                          where the next note starts, at the aligned end of the descriptor
+--     note_of                            the note at a reader's place; its type is the header's third field
 --     note_step, reader_after            what a step finds, and the reader that stands after it
 -- Assumes nothing.
 use Rattle.std.specs.Prelude.{ℕ, ◌+◌, ◌*◌, ◌/◌, cond, List, eqb, leb, ltb, length}

@@ -1,12 +1,12 @@
 -- Need not be believed for a promise: all the notes of a section, in order, and how they end (01, module 4). It is made of
 -- steps; document 01's cases are stated by it.
---     Ending, NoteList       at the end or with a refusal, and the notes before that
---     none, onto             no notes, and one more in front
---     after_step              what a step adds to the list of the reader after it
---     notes_within            the list, of so many steps at most
---     notes_from              the list from a reader on: each note takes at least 12 bytes, so the length is steps enough
---     notes_of, section_notes  the list of a section, by the alignment's number
---     Stepping               stepping from a reader on gives this list
+--     Ending, NoteList           at the end or with a refusal, and the notes before that
+--     none, onto                 no notes, and one more in front
+--     after_step                 what a step adds to the list of the reader after it
+--     notes_within               the list, of so many steps at most
+--     notes_from                 the list from a reader on: each note takes at least 12 bytes, so the length is steps enough
+--     notes_of, section_notes    the list of a section, by the alignment's number
+--     Stepping                   stepping from a reader on gives this list
 -- Assumes nothing.
 use Rattle.std.specs.Prelude.{ℕ, zero, suc, ◌≡◌, cond, List, [], ◌∷◌, ltb, length}
 use Rattle.endian.specs.declared.kinds.Order.{Order}

@@ -1,7 +1,7 @@
 -- The zeros at the end, from the last element on. Assumes nothing.
---     trim_zero    a last element that is 0 does not count
---     trim_last    a last element that is not 0 does, and all before it
---     trim_less, trim_all     the same of a loop that has n elements left
+--     trim_zero              a last element that is 0 does not count
+--     trim_last              a last element that is not 0 does, and all before it
+--     trim_less, trim_all    the same of a loop that has n elements left
 use Prim.Native.Nat.{ℕ, suc, ◌-◌, ◌<◌, ◌≤◌}
 use mathlib.Core.Path.{◌≡◌, refl, ◌∙◌, ap}
 use mathlib.Core.List.{List, [], ◌∷◌, ◌++◌}

@@ -1,5 +1,5 @@
 -- Whether a note holds GNU properties (01, module 4).
---     gnu, is_gnu                      the bytes of `GNU`, and whether the trimmed name is that
+--     gnu, is_gnu                       the bytes of `GNU`, and whether the trimmed name is that
 --     property_start, gnu_properties    the reader before the first property, and the same if the note is of this kind
 -- Assumes nothing.
 use Rattle.std.specs.Prelude.{ℕ, Bool, cond, ◌&&◌, List, [], ◌∷◌, eqb}

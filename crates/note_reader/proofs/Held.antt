@@ -1,6 +1,6 @@
 -- What the walks by hand of this crate share.
---     row          the type of a `Notes`, over a signature's lifetimes
---     erased_at     a lifetime as the type of a local of a body has it: MIR erases its name there
+--     row                          the type of a `Notes`, over a signature's lifetimes
+--     erased_at                    a lifetime as the type of a local of a body has it: MIR erases its name there
 --     slice_value, reader_value    the machine values of a slice and of a reader
 -- Assumes nothing.
 use Prim.Native.Nat.{ℕ}

@@ -1,6 +1,6 @@
 -- The end form of the note reader: the lent bytes and the reader in one struct (01, "Where each form goes").
 --     notes_at    the bytes with a reader
---     stepped    a step of the notes: its answer, and the same bytes with the reader that stands after it
+--     stepped     a step of the notes: its answer, and the same bytes with the reader that stands after it
 -- Assumes nothing.
 use Rattle.std.specs.Prelude.{List, ℕ}
 use Rattle.std.specs.Borrow.{Bor}

@@ -1,11 +1,11 @@
 -- GNU properties (01, module 4): type 4, size 4, data, padding.
---     property_align       8 in ELF64, 4 in ELF32
+--     property_align        8 in ELF64, 4 in ELF32
 --     property_reader_at    the same reader at another place
---     property_size        its second field: the bytes of its data
---     property_next        where the next property starts, from this one's own start
---     property_of          the property at a reader's place; its type is the first field
---     property_step        what a step finds, with the reader that stands after it
---     property_number      a property's data as a number
+--     property_size         its second field: the bytes of its data
+--     property_next         where the next property starts, from this one's own start
+--     property_of           the property at a reader's place; its type is the first field
+--     property_step         what a step finds, with the reader that stands after it
+--     property_number       a property's data as a number
 -- Assumes nothing.
 use Rattle.std.specs.Prelude.{ℕ, ◌+◌, cond, List, leb, ltb, length}
 use Rattle.endian.specs.declared.kinds.Class.{Class}

@@ -1,7 +1,7 @@
 -- The bytes of a segment in the file (01, module 7). Offsets and sizes are any numbers, and no sum of them wraps.
 --     is_in_file            whether filesz bytes at the segment's offset are inside the file
---     segment_data         the segment's data, as a place in the file
---     is_here              whether an address range is among the file bytes, which start at vaddr
+--     segment_data          the segment's data, as a place in the file
+--     is_here               whether an address range is among the file bytes, which start at vaddr
 --     segment_data_range    the bytes of an address range, as a place in the file
 -- Assumes nothing.
 use Rattle.std.specs.Prelude.{ℕ, ◌+◌, ◌-◌, Bool, cond, not, ◌&&◌, List, leb, ltb, length}

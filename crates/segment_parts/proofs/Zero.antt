@@ -1,6 +1,6 @@
 -- The bytes up to their first zero, by the string that is read at their start.
---     from_string            what a string that was read says of the interpreter
---     up_to_zero_string       the bytes up to their first zero are the string at offset 0
+--     from_string           what a string that was read says of the interpreter
+--     up_to_zero_string     the bytes up to their first zero are the string at offset 0
 --     interpreter_string    the same of a segment's bytes, as the code lends them: from its offset to its end
 -- Assumes nothing.
 use Prim.Native.Nat.{ℕ, ◌+◌, ◌-◌, ◌≤◌}

@@ -1,6 +1,6 @@
 -- The interpreter that a segment names (01, module 7): the segment's bytes up to their first zero.
 --     segment_bytes          the segment's bytes
---     up_to_zero              the front part of some bytes of the file, up to their first zero
+--     up_to_zero             the front part of some bytes of the file, up to their first zero
 --     segment_interpreter    the interpreter's name, as a place in the file
 -- Assumes nothing.
 use Rattle.std.specs.Prelude.{ℕ, cond, not, List, eqb, ltb, length, take, drop}

@@ -1,11 +1,11 @@
 -- A table of symbols, as the gABI and document 01's "Layouts" lay them out.
---     symbol_index     the symbol number of a number
---     symbol_size      the bytes of a record
---     symbols_in       n: how many whole records there are
---     symbol_of        the fields of the record at a place
---     symbol_count     the same, unless the symbols are too long
---     symbol_at        the symbol of a number
---     symbol_name      the name of the symbol of a number
+--     symbol_index    the symbol number of a number
+--     symbol_size     the bytes of a record
+--     symbols_in      n: how many whole records there are
+--     symbol_of       the fields of the record at a place
+--     symbol_count    the same, unless the symbols are too long
+--     symbol_at       the symbol of a number
+--     symbol_name     the name of the symbol of a number
 -- Assumes nothing.
 use Rattle.std.specs.Prelude.{ℕ, ◌+◌, ◌*◌, ◌/◌, cond, List, [], ◌∷◌, eqb, leb, ltb, length}
 use Rattle.endian.specs.declared.kinds.Class.{Class}

@@ -1,6 +1,6 @@
 -- Whether a symbol is a definition.
 --     reserved_section             a section number that is no section's: undefined, or from SHN_LORESERVE on but for SHN_XINDEX
---     starts_with_dollar            whether the string at an offset can be read and starts with `$`
+--     starts_with_dollar           whether the string at an offset can be read and starts with `$`
 --     is_definition, definition    symbol.rs, `Sym::is_definition`, and the same as an answer
 -- Assumes nothing.
 use Rattle.std.specs.Prelude.{ℕ, Bool, true, false, cond, not, ◌&&◌, List, eqb, ltb, leb, length, get_or}

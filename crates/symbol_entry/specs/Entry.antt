@@ -1,7 +1,7 @@
 -- What the fields of a symbol say (gABI, "Symbol Table").
---     bind_of, type_of, visibility_of       ELF_ST_BIND, ELF_ST_TYPE, ELF_ST_VISIBILITY
---     is_undefined, is_common, is_absolute  by its section number: SHN_UNDEF, SHN_COMMON, SHN_ABS
---     is_local, is_weak                    by its binding: STB_LOCAL, STB_WEAK
+--     bind_of, type_of, visibility_of         ELF_ST_BIND, ELF_ST_TYPE, ELF_ST_VISIBILITY
+--     is_undefined, is_common, is_absolute    by its section number: SHN_UNDEF, SHN_COMMON, SHN_ABS
+--     is_local, is_weak                       by its binding: STB_LOCAL, STB_WEAK
 -- Assumes nothing.
 use Rattle.std.specs.Prelude.{ℕ, ◌/◌, ◌%◌, Bool, eqb}
 use Rattle.symbol_entry.specs.declared.Symbol.{Symbol}

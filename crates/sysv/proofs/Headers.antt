@@ -1,6 +1,6 @@
 -- The lookup, from the header as it was read or refused.
---     find_from, find_from_lem        the lookup
---     lookup_none, lookup_walk   the lookup by the numbers of the header: without buckets, or a walk from the hash's bucket
+--     find_from, find_from_lem    the lookup
+--     lookup_none, lookup_walk    the lookup by the numbers of the header: without buckets, or a walk from the hash's bucket
 -- Assumes nothing.
 use Prim.Native.Nat.{ℕ, ◌+◌, ◌*◌, ◌%◌}
 use mathlib.Core.Path.{◌≡◌, refl}

@@ -1,8 +1,8 @@
 -- A SysV hash table over its symbols, as numbers and functions, and what a lookup gives.
 -- Source: the gABI, "Hash Table"; 01, "Lookups", for what it leaves open.
---     SysvTable     the table, its symbols' names and how many symbols there are
---     visited       the numbers that a walk tests if nothing matches: at most k of them, from a number on
---     numbers       those of a bucket
+--     SysvTable      the table, its symbols' names and how many symbols there are
+--     visited        the numbers that a walk tests if nothing matches: at most k of them, from a number on
+--     numbers        those of a bucket
 --     sysv_lookup    what a lookup gives
 -- Assumes nothing.
 use Rattle.std.specs.Prelude.{ℕ, zero, suc, ◌%◌, Bool, cond, List, [], ◌∷◌, ltb, eqb}

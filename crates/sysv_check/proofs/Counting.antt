@@ -1,11 +1,11 @@
 -- Counting by runs: sums over a run of numbers, how often a number stands in a list, and the pigeonholes.
---     every_all, all_every             a test of all elements, and the fact
---     all_append                       of two lists laid together
+--     every_all, all_every                              a test of all elements, and the fact
+--     all_append                                        of two lists laid together
 --     times-append, times_none, all-times, times-all    how often a number stands in a list, and what holds of its elements
---     sum                              f a + f (a + 1) + .., k summands
---     sum_single, sum_ones, sum-times  one summand that is not 0; all 1; a list of numbers of a run is as long as the sum
+--     sum                                               f a + f (a + 1) + .., k summands
+--     sum_single, sum_ones, sum-times                   one summand that is not 0; all 1; a list of numbers of a run is as long as the sum
 --                                      of how often each number of the run stands in it
---     all_ones                         k summands of at most 1 that add up to k are all 1
+--     all_ones    k summands of at most 1 that add up to k are all 1
 -- Assumes nothing.
 use mathlib.Core.Path.{◌≡◌, refl, sym, ap, ◌∙◌, subst}
 use mathlib.Core.Bool.{Bool, true, cond}

@@ -1,5 +1,5 @@
 -- What a walk over a list answers, by the list at its first match.
---     Split, first_of_split      a list at its first match, and the probes up to it
+--     Split, first_of_split     a list at its first match, and the probes up to it
 --     walk_found, found_walk    a walk that finds, there and back
 --     walk_none, none_walk      a walk that finds nothing, there and back
 -- Assumes nothing.

@@ -1,14 +1,14 @@
 -- What a SysV table that the checker accepts promises (01, "SysV checker"): for any name with its own SysV hash, any version
 -- table and any need, all within the limit, the lookup is not refused; it finds nothing exactly if no symbol 1 to n - 1
 -- matches; else it finds the first match on the chain of the name's hash.
---     Chain            the numbers of a chain that comes to 0, from a number on, without a bound on its steps
---     OnItsChain       those of the chain of the name's hash
---     FirstMatch       the first match on a list
---     answer_by_name     the lookup with the name's own hash
---     NoMatch          no symbol 1 to n - 1 matches
---     Right            the sentence, of that answer
---     AcceptedHolds    the theorem: an accepted table keeps it; `accepted` in proofs/Accepted proves it
---     SysvLast         demand 3's last sentence for SysV tables, as a theorem: `sysv_last` there proves it
+--     Chain             the numbers of a chain that comes to 0, from a number on, without a bound on its steps
+--     OnItsChain        those of the chain of the name's hash
+--     FirstMatch        the first match on a list
+--     answer_by_name    the lookup with the name's own hash
+--     NoMatch           no symbol 1 to n - 1 matches
+--     Right             the sentence, of that answer
+--     AcceptedHolds     the theorem: an accepted table keeps it; `accepted` in proofs/Accepted proves it
+--     SysvLast          demand 3's last sentence for SysV tables, as a theorem: `sysv_last` there proves it
 -- Assumes nothing.
 use Rattle.std.specs.Prelude.{ℕ, suc, ◌+◌, ◌*◌, ◌%◌, ◌≤◌, ◌<◌, ◌≡◌, false, List, [], ◌∷◌, ◌++◌, length}
 use Rattle.endian.specs.declared.kinds.Class.{Class}

@@ -1,9 +1,9 @@
 -- The rules of the SysV checker, over a table as numbers and functions (01, "SysV checker"). `low` is the first symbol that
 -- must be found.
---     first_global       that symbol: 1
+--     first_global        that symbol: 1
 --     sysv_bucket_of      the bucket of a symbol, by the hash of its name
---     ends              whether a chain comes to 0
---     t1, t2, t3        the rules
+--     ends                whether a chain comes to 0
+--     t1, t2, t3          the rules
 --     sysv_table_check    the first that is broken, or accepted
 -- Assumes nothing.
 use Rattle.std.specs.Prelude.{ℕ, zero, suc, ◌-◌, ◌%◌, Bool, true, cond, not, ◌&&◌, leb, ltb, eqb}

@@ -1,12 +1,12 @@
 -- Need not be believed: what the walk along every chain of a SysV table computes, with so many steps. That it is T3 is proved
 -- in `sysv_check` (`proofs/Counted`).
---     in_range                 whether a number may stand on a chain at all
---     may_stand                whether it may stand on the chain of a bucket
---     steps_of, ended          what is left of the steps after a chain, or that something is wrong with it; whether nothing is
---     follow                  along one chain with k steps left: the steps that are left after it, or none
---     onward, follow_all       along the chains of these buckets, with what is left
---     spent                   nothing is left of the steps
---     all_spent                along every chain, in exactly so many steps
+--     in_range              whether a number may stand on a chain at all
+--     may_stand             whether it may stand on the chain of a bucket
+--     steps_of, ended       what is left of the steps after a chain, or that something is wrong with it; whether nothing is
+--     follow                along one chain with k steps left: the steps that are left after it, or none
+--     onward, follow_all    along the chains of these buckets, with what is left
+--     spent                 nothing is left of the steps
+--     all_spent             along every chain, in exactly so many steps
 -- Assumes nothing.
 use Rattle.std.specs.Prelude.{ℕ, zero, suc, Bool, true, false, cond, ◌&&◌, List, [], ◌∷◌, leb, ltb, eqb}
 use Rattle.std.proofs.Math.Option.{Option, some, none}

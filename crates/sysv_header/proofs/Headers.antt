@@ -1,5 +1,5 @@
 -- What follows from the header, as it was read or refused.
---     count_from, length_from     the length
+--     count_from, length_from    the length
 --     header_read                a header that was read: the table is whole, and the header is its own
 -- Assumes nothing.
 use Prim.Native.Nat.{ℕ}

@@ -1,8 +1,8 @@
 -- The header of a SysV table (01, "Layouts" and "Lookups"), and where the buckets and the chains stand after it.
 --     bucket_count_of, chain_count_of    its two numbers
---     chains_at                       where the chains start
---     sysv_fault                      refusal 23, 24 or 25, where the header, the buckets or the chains are not whole
---     sysv_length                     how many chains there are, or why there is no whole table
+--     chains_at                          where the chains start
+--     sysv_fault                         refusal 23, 24 or 25, where the header, the buckets or the chains are not whole
+--     sysv_length                        how many chains there are, or why there is no whole table
 -- Assumes nothing.
 use Rattle.std.specs.Prelude.{ℕ, ◌+◌, ◌*◌, cond, List, ltb, length}
 use Rattle.std.proofs.Math.Option.{Option, some, none}

@@ -1,8 +1,8 @@
 -- A version table (01, "The store"): versyms, the store, and the versions' strings.
---     number_at, stored_at     a number of the entry at an index, and the version in it
---     inside, valid          whether a part lies in the strings, and whether a stored version is one (21)
+--     number_at, stored_at    a number of the entry at an index, and the version in it
+--     inside, valid           whether a part lies in the strings, and whether a stored version is one (21)
 --     entry_at                the version behind an index
---     versym_of, versym_at     the versym of a symbol, or 1 where there is none, and what it says
+--     versym_of, versym_at    the versym of a symbol, or 1 where there is none, and what it says
 -- Assumes nothing.
 use Rattle.std.specs.Prelude.{ℕ, ◌+◌, ◌*◌, ◌%◌, List, Bool, false, cond, ◌&&◌, length, get_or, ltb, leb, eqb}
 use Rattle.endian.specs.declared.kinds.Order.{Order}

@@ -1,9 +1,9 @@
 -- What a record stores (01, module 5): its version, with its index.
---     part_at                            the string at an offset, with the refusal where there is none
---     def_version, passed_over            of a definition: its version (11, 12, 18), and whether it stores nothing
---     need_version                       of a needed version (20, then 19)
---     storing                           what a record stores: nothing if it is passed over
---     def_entries, aux_entries            what a definition, a needed version store
+--     part_at                     the string at an offset, with the refusal where there is none
+--     def_version, passed_over    of a definition: its version (11, 12, 18), and whether it stores nothing
+--     need_version                of a needed version (20, then 19)
+--     storing                     what a record stores: nothing if it is passed over
+--     def_entries, aux_entries    what a definition, a needed version store
 -- Assumes nothing.
 use Rattle.std.specs.Prelude.{ℕ, List, [], ◌∷◌, Bool, true, false, ◌||◌, eqb}
 use Rattle.endian.specs.declared.kinds.Order.{Order}

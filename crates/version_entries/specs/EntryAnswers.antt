@@ -1,5 +1,5 @@
 -- Need not be believed: what inner functions answer, as outcomes. Their contracts cite it.
---     entry_step                    the answer of an outcome
+--     entry_step                     the answer of an outcome
 --     part_outcome, entry_outcome    the outcome of an answer
 -- Assumes nothing.
 use Rattle.std.specs.Prelude.{List, [], ◌∷◌}

@@ -1,7 +1,7 @@
 -- The first pass (01, module 5): the highest index over definitions (whole 16 bits) and needs (low 15 bits).
---     def_indices, aux_indices, need_indices  the indices that a definition, a needed version, a need name
---     indices                              those of the definitions, then those of the needs
---     highest_index                         the highest of them, or 0 where there is none
+--     def_indices, aux_indices, need_indices    the indices that a definition, a needed version, a need name
+--     indices                                   those of the definitions, then those of the needs
+--     highest_index                             the highest of them, or 0 where there is none
 -- Assumes nothing.
 use Rattle.std.specs.Prelude.{ℕ, max, List, [], ◌∷◌, cond}
 use Rattle.endian.specs.declared.kinds.Order.{Order}

@@ -1,5 +1,5 @@
 -- The records of the version sections, as document 01's "Layouts" and the LSB's symbol versioning chapter lay them out.
---     Field, field_of                       a field's width and its place in its record; the field of the record at a place
+--     Field, field_of                      a field's width and its place in its record; the field of the record at a place
 --     verdef, verdaux, verneed, vernaux    the fields of each that are read
 -- Assumes nothing.
 use Rattle.std.specs.Prelude.{ℕ, List}

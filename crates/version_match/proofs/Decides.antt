@@ -1,8 +1,8 @@
 -- What a match decides, for whoever cites it.
---     match_need     with a need: the symbol's versym and the version behind it, whose hash and name are the need's
---     match_of_lem       and the other way round
---     match_long     a need whose name is too long matches nothing
---     match_one      two needs that one symbol matches are the same
+--     match_need      with a need: the symbol's versym and the version behind it, whose hash and name are the need's
+--     match_of_lem    and the other way round
+--     match_long      a need whose name is too long matches nothing
+--     match_one       two needs that one symbol matches are the same
 -- Assumes nothing.
 use Prim.Native.Nat.{ℕ, ◌≤◌, ◌<◌}
 use mathlib.Core.Path.{◌≡◌, refl, sym, ap, ◌∙◌}

@@ -1,7 +1,7 @@
 -- What a version behind an index is known for.
---     entry_valid     the strings are not too long, and it is a valid one, the one that is stored there
---     and_both        both of two tests
---     name_inside     its name lies in the strings
+--     entry_valid    the strings are not too long, and it is a valid one, the one that is stored there
+--     and_both       both of two tests
+--     name_inside    its name lies in the strings
 -- Assumes nothing.
 use Prim.Native.Nat.{ℕ, ◌≤◌}
 use mathlib.Core.Path.{◌≡◌, refl, sym, ap, ◌∙◌}

@@ -1,7 +1,7 @@
 -- The match (01, "Match").
 --     version_name            the bytes of a version's name
 --     is_needed, satisfied    whether a version has the hash and the name; whether what is behind an index is what is needed
---     matching               whether the version of a symbol is the one that is needed; never where versyms or strings
+--     matching                whether the version of a symbol is the one that is needed; never where versyms or strings
 --                            are too long. A name is not held to the limit: one that is too long is no version's
 -- Assumes nothing.
 use Rattle.std.specs.Prelude.{ℕ, List, Bool, true, false, not, ◌&&◌, take, drop, eqb}

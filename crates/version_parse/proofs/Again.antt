@@ -1,6 +1,6 @@
 -- What a record stores, once more, and where it is not passed over.
---     or_left           it is not flagged base
---     storing_again     it stores the same the second time
+--     or_left          it is not flagged base
+--     storing_again    it stores the same the second time
 -- Assumes nothing.
 use Prim.Native.Nat.{ℕ}
 use mathlib.Core.Path.{◌≡◌, refl, sym, ap, ◌∙◌}

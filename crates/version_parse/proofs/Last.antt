@@ -1,13 +1,13 @@
 -- The store by index, for whoever reads it: each entry is that of the last record, in list order (definitions, then
 -- needs), that stores there.
---     Absent         no version of a list has an index
---     put_here, put_elsewhere    an entry that is put, at its index and at another
+--     Absent                        no version of a list has an index
+--     put_here, put_elsewhere       an entry that is put, at its index and at another
 --     folded_absent, folded_last    a list of entries, put one after the other
---     Fits           every version of a list has room in n numbers
---     entries_fit    what the records store has room where the highest index has
---     parsed_from    what parsing that came to a table did
---     stored_last    the numbers at the index of the last version of the list that has it
---     stored_none    the numbers at an index that none of them has: 0
+--     Fits                          every version of a list has room in n numbers
+--     entries_fit                   what the records store has room where the highest index has
+--     parsed_from                   what parsing that came to a table did
+--     stored_last                   the numbers at the index of the last version of the list that has it
+--     stored_none                   the numbers at an index that none of them has: 0
 -- Assumes nothing.
 use Prim.Native.Nat.{ℕ, ◌+◌, ◌*◌, ◌≤◌, ◌<◌}
 use mathlib.Core.Path.{◌≡◌, refl, sym, ap, subst, ◌∙◌}

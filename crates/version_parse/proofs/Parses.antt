@@ -1,8 +1,8 @@
 -- What parsing comes to, case by case.
---     parsed_long                               a part is too long
---     parsed_first, parsed_small                refused by the first pass; by the store's length
---     parsed_second, parsed_done                refused by the second pass; done
---     answered, stored_done, stored_refused     the answer, and the store, from what the two say together
+--     parsed_long                              a part is too long
+--     parsed_first, parsed_small               refused by the first pass; by the store's length
+--     parsed_second, parsed_done               refused by the second pass; done
+--     answered, stored_done, stored_refused    the answer, and the store, from what the two say together
 -- Assumes nothing.
 use Prim.Native.Nat.{ℕ, ◌<◌, ◌≤◌}
 use mathlib.Core.Path.{◌≡◌, sym, ap, ◌∙◌}

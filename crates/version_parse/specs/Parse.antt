@@ -1,8 +1,8 @@
 -- Version parsing as a whole (01, module 5 and "The store"): what it answers, and the store after it.
---     ParsedStore            the highest index and the store
---     parsed_into             what parsing comes to over a store: 1, the first pass, 22, the second pass
---     parsed                 the same over n zeros
---     answer_of, store_after   what is answered, and the n numbers of the store afterwards: all 0 after a refusal
+--     ParsedStore               the highest index and the store
+--     parsed_into               what parsing comes to over a store: 1, the first pass, 22, the second pass
+--     parsed                    the same over n zeros
+--     answer_of, store_after    what is answered, and the n numbers of the store afterwards: all 0 after a refusal
 -- Assumes nothing.
 use Rattle.std.specs.Prelude.{ℕ, List, [], ◌∷◌, cond, length, replicate, ltb}
 use Rattle.endian.specs.declared.kinds.Order.{Order}

@@ -1,6 +1,6 @@
 -- The second pass (01, module 5): the versions that the lists store, with their indices.
 --     need_entries    what a need stores
---     entries        what the definitions store, then what the needs store
+--     entries         what the definitions store, then what the needs store
 -- Assumes nothing.
 use Rattle.std.specs.Prelude.{ℕ, List}
 use Rattle.endian.specs.declared.kinds.Order.{Order}

@@ -1,9 +1,9 @@
 -- What a step that can be refused comes to.
---     fine_same, stop_fine     two values are the same; a refusal is no value
---     cond_fine, bind_from     what was tested, and what came before, where a value came out
---     bind_fine, bind_stop     a bind whose first part is known
---     folded_both              one list and then another
---     both_go, both_leave      the same where the first is known
+--     fine_same, stop_fine    two values are the same; a refusal is no value
+--     cond_fine, bind_from    what was tested, and what came before, where a value came out
+--     bind_fine, bind_stop    a bind whose first part is known
+--     folded_both             one list and then another
+--     both_go, both_leave     the same where the first is known
 -- Assumes nothing.
 use Prim.Native.Nat.{ℕ}
 use mathlib.Core.Path.{◌≡◌, refl, sym, ap, ◌∙◌}

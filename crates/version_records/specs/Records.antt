@@ -1,13 +1,13 @@
 -- The records of the version sections at a place (01, module 5), and their lists. Places count from their record and may
 -- reach the end.
---     list_shape                    what a record of a list is tested for: size, places of aux and next, refusals
---     verdef_shape, verneed_shape    those of the two lists
---     verdaux_shape, vernaux_shape   the same of a record of a chain, which has no aux
---     place_after                   where the next record of a list is: the end where `next` is 0
---     record_at, aux_at              the record of a list, of a chain, at a place: short, aux, next, in that order
---     listed, verdefs, verneeds    the records of a list from a place on
---     vernauxs                     the records of a chain: as many as the count says; a `next` of 0 repeats the record
---     need_count                    of a need: how many versions it has
+--     list_shape                      what a record of a list is tested for: size, places of aux and next, refusals
+--     verdef_shape, verneed_shape     those of the two lists
+--     verdaux_shape, vernaux_shape    the same of a record of a chain, which has no aux
+--     place_after                     where the next record of a list is: the end where `next` is 0
+--     record_at, aux_at               the record of a list, of a chain, at a place: short, aux, next, in that order
+--     listed, verdefs, verneeds       the records of a list from a place on
+--     vernauxs                        the records of a chain: as many as the count says; a `next` of 0 repeats the record
+--     need_count                      of a need: how many versions it has
 -- Assumes nothing.
 use Rattle.std.specs.Prelude.{ℕ, ◌+◌, ◌-◌, List, cond, length, ltb, eqb}
 use Rattle.endian.specs.declared.kinds.Order.{Order}

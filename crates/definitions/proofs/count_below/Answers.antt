@@ -3,7 +3,6 @@
 use Prim.Native.Nat.{◌+◌, ◌-◌}
 use mathlib.Core.Path.{ap, ◌∙◌}
 use mathlib.Core.Bool.{cond}
-use borrow.Author.Rules.{rules}
 use native.Mathlib.Omega.{arith}
 use Rattle.definitions.specs.Definitions.{defines_in}
 use Rattle.definitions.proofs.Counting.{Counting, counting_start, counting_next, counting_end}

@@ -1,12 +1,8 @@
 -- `definitions::count_below` meets its contract. The invariant: what was counted, and what the rest gives, is the
 -- answer. The measure is what is left of the symbols. Assumes nothing.
-use Prim.Native.Nat.{◌+◌, ◌-◌}
-use mathlib.Core.Path.{ap, ◌∙◌}
-use mathlib.Core.Bool.{cond}
-use borrow.Author.Rules.{rules}
-use native.Mathlib.Omega.{arith}
+use Prim.Native.Nat.{◌-◌}
 use Rattle.definitions.specs.Definitions.{defines_in}
-use Rattle.definitions.proofs.Counting.{Counting, counting_start, counting_next, counting_end}
+use Rattle.definitions.proofs.Counting.{Counting}
 use Rattle.definitions.proofs.count_below.Given as goal
 
 abbrev pub invariant-loop-i : goal.invariant-loop-i

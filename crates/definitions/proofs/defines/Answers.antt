@@ -1,8 +1,6 @@
 -- `definitions::defines` meets its contract: the name, then its section, then its version. Assumes nothing.
 use mathlib.Core.Path.{sym, ◌∙◌}
-use borrow.Author.Tests.{not-true, not-false}
 use Rattle.definitions.specs.Definitions.{defines_in}
-use borrow.Author.Rules.{rules}
 use Rattle.definitions.proofs.defines.Goals as goal
 
 pub returns-then-not-has_name : goal.returns-then-not-has_name

@@ -1,7 +1,6 @@
 -- `definitions::has_no_version` meets its contract. Each arm is told what `version_of` answered. Assumes nothing.
 use mathlib.Core.Path.{sym, ap, ◌∙◌}
 use Rattle.definitions.specs.Definitions.{has_no_version}
-use borrow.Author.Rules.{rules}
 use Rattle.definitions.proofs.has_no_version.Goals as goal
 
 pub returns-in-At : goal.returns-in-At

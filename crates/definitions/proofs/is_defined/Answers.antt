@@ -2,7 +2,6 @@
 use mathlib.Core.Path.{sym, ap, ◌∙◌}
 use mathlib.Core.Bool.{not}
 use Rattle.definitions.specs.Definitions.{is_defined}
-use borrow.Author.Rules.{rules}
 use Rattle.definitions.proofs.is_defined.Goals as goal
 
 pub returns-in-At : goal.returns-in-At

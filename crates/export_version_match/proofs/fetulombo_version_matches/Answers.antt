@@ -1,7 +1,6 @@
 -- `export_version_match::fetulombo_version_matches` meets its contract. Each answer is the one that its tests pick. Assumes nothing.
 use mathlib.Core.Path.{sym, ◌∙◌}
-use borrow.Author.Rules.{rules}
-use borrow.Author.Tests.{lt-ltb, le-ltb, not-true, not-false}
+use borrow.Author.Tests.{lt-ltb, le-ltb}
 use Rattle.export_version_match.proofs.fetulombo_version_matches.Goals as goal
 
 pub returns-then-not-is_kind : goal.returns-then-not-is_kind

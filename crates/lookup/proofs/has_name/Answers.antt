@@ -1,7 +1,6 @@
 -- `lookup::has_name` meets its contract. Each arm is told what `symbol_at` answered. Assumes nothing.
 use mathlib.Core.Path.{sym, ap, ◌∙◌}
 use Rattle.lookup.proofs.Named.{named_at, named_at_lem}
-use borrow.Author.Rules.{rules}
 use Rattle.lookup.proofs.has_name.Goals as goal
 
 pub returns-in-At : goal.returns-in-At

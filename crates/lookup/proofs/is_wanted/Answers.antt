@@ -1,8 +1,6 @@
 -- `lookup::is_wanted` meets its contract: the name first, then the version. Assumes nothing.
 use mathlib.Core.Path.{sym, ◌∙◌}
-use borrow.Author.Tests.{not-true, not-false}
 use Rattle.lookup.specs.Wanted.{wanted_in}
-use borrow.Author.Rules.{rules}
 use Rattle.lookup.proofs.is_wanted.Goals as goal
 
 pub returns-then-not-has_name : goal.returns-then-not-has_name

@@ -1,5 +1,4 @@
 -- `marks_entry::entry_marks` meets its contract: each mark is what its callee answers. Assumes nothing.
-use borrow.Author.Rules.{rules}
 use Rattle.marks_entry.proofs.entry_marks.Goals as goal
 
 pub returns : goal.returns

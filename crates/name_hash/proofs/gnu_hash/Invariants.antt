@@ -1,13 +1,9 @@
 -- `name_hash::gnu_hash` meets its contract. The invariant: folding the rest of the name, from h, gives the hash. The measure is what is left
 -- of the name. Assumes nothing.
 use Prim.Native.Nat.{◌-◌}
-use mathlib.Core.Path.{ap}
 use lib.ListN.{length}
-use borrow.Author.Rules.{rules}
-use borrow.Author.Tests.{lt-ltb, le-ltb}
-use Rattle.name_hash.specs.declared.NameHash.TheVariants.{Hash}
-use Rattle.name_hash.specs.Hash.{gnu_step, gnu_hash}
-use Rattle.name_hash.proofs.Fold.{Folding, folding_start, folding_next, folding_end}
+use Rattle.name_hash.specs.Hash.{gnu_step}
+use Rattle.name_hash.proofs.Fold.{Folding}
 use Rattle.name_hash.proofs.gnu_hash.Given as goal
 
 abbrev pub invariant-loop-i : goal.invariant-loop-i

@@ -1,13 +1,10 @@
 -- `name_hash::sysv_hash` meets its contract. The invariant: folding the rest of the name, from h, gives the hash. The measure is what is left
 -- of the name. Assumes nothing.
-use Prim.Native.Nat.{◌-◌}
 use mathlib.Core.Path.{ap}
-use lib.ListN.{length}
-use borrow.Author.Rules.{rules}
 use borrow.Author.Tests.{lt-ltb, le-ltb}
 use Rattle.name_hash.specs.declared.NameHash.TheVariants.{Hash}
 use Rattle.name_hash.specs.Hash.{sysv_step, sysv_hash}
-use Rattle.name_hash.proofs.Fold.{Folding, folding_start, folding_next, folding_end}
+use Rattle.name_hash.proofs.Fold.{folding_start, folding_next, folding_end}
 use Rattle.name_hash.proofs.sysv_hash.Goals as goal
 
 pub returns-then-name-gt-LIMIT : goal.returns-then-name-gt-LIMIT

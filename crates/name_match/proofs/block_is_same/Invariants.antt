@@ -1,15 +1,10 @@
 -- `name_match::block_is_same` meets its contract. No more than k bytes are the same; if fewer are, the name is not there. Assumes nothing.
 use Prim.Native.Nat.{◌≤◌, ◌<◌, ◌-◌, ◌+◌}
-use mathlib.Core.Path.{◌≡◌, sym, ◌∙◌}
+use mathlib.Core.Path.{◌≡◌}
 use mathlib.Core.Bool.{false}
-use native.Mathlib.Omega.{arith}
-use native.Mathlib.Nat.{add-zero}
 use lib.ListN.{drop}
-use borrow.Author.Rules.{rules}
-use borrow.Author.Tests.{eqb-true, eqb-false}
 use Rattle.name_match.specs.Reads.{reads}
 use Rattle.name_match.specs.Same.{SameFrom}
-use Rattle.name_match.proofs.Comparing.{reads_other, same_none, same_next, fewer, missed}
 use Rattle.name_match.proofs.block_is_same.Given as goal
 
 abbrev pub invariant-loop-k : goal.invariant-loop-k

@@ -1,14 +1,7 @@
 -- `name_match::blocks_are_same` meets its contract. The bytes before i are the same; what is left of the name falls. Assumes nothing.
-use Prim.Native.Nat.{◌≤◌, ◌-◌, ◌+◌}
-use mathlib.Core.Path.{◌≡◌, sym}
-use native.Mathlib.Omega.{arith}
-use native.Mathlib.Nat.{le_refl}
+use Prim.Native.Nat.{◌≤◌, ◌-◌}
 use lib.ListN.{length}
-use borrow.Author.Rules.{rules}
-use borrow.Author.Tests.{not-true, not-false}
-use Rattle.endian.proofs.Falsity.{false_true}
 use Rattle.name_match.specs.Same.{SameFrom}
-use Rattle.name_match.proofs.Comparing.{same_none, same_join}
 use Rattle.name_match.proofs.blocks_are_same.Given as goal
 
 abbrev pub invariant-loop-i : goal.invariant-loop-i

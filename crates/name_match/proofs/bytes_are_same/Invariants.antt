@@ -1,12 +1,7 @@
 -- `name_match::bytes_are_same` meets its contract. The bytes before i are the same; what is left of the name falls. Assumes nothing.
 use Prim.Native.Nat.{◌≤◌, ◌-◌}
-use mathlib.Core.Path.{◌≡◌, sym}
-use native.Mathlib.Omega.{arith}
 use lib.ListN.{length}
-use borrow.Author.Rules.{rules}
-use Rattle.endian.proofs.Falsity.{false_true}
 use Rattle.name_match.specs.Same.{SameFrom}
-use Rattle.name_match.proofs.Comparing.{reads_other, same_none, same_next, fewer}
 use Rattle.name_match.proofs.bytes_are_same.Given as goal
 
 abbrev pub invariant-loop-i : goal.invariant-loop-i

@@ -2,8 +2,6 @@
 use mathlib.Core.Path.{sym}
 use native.Mathlib.Omega.{arith}
 use lib.ListN.{drop, length-drop}
-use borrow.Author.Rules.{rules}
-use borrow.Author.Tests.{not-true, not-false}
 use Rattle.name_match.proofs.Comparing.{reads_short, reads_all}
 use Rattle.name_match.proofs.reads_name.Goals as goal
 

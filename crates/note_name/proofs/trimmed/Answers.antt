@@ -1,8 +1,6 @@
 -- `note_name::trimmed` meets its contract. The invariant: what was passed are zeros at the end. The measure is what is left. Assumes nothing.
 use native.Mathlib.Omega.{arith}
-use Prim.Native.Nat.{◌≤◌}
 use mathlib.Core.Path.{◌≡◌, sym, ◌∙◌}
-use lib.ListN.{length, take}
 use lib.Seq.{take-length, length-take-le}
 use Rattle.note_name.specs.Trim.{trimmed_length}
 use Rattle.note_name.proofs.Trimming.{trim_less, trim_all}

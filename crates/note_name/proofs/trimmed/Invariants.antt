@@ -1,12 +1,8 @@
 -- `note_name::trimmed` meets its contract. The invariant: what was passed are zeros at the end. The measure is what is left. Assumes nothing.
-use native.Mathlib.Omega.{arith}
 use Prim.Native.Nat.{◌≤◌}
-use mathlib.Core.Path.{◌≡◌, sym, ◌∙◌}
+use mathlib.Core.Path.{◌≡◌}
 use lib.ListN.{length, take}
-use lib.Seq.{take-length, length-take-le}
 use Rattle.note_name.specs.Trim.{trimmed_length}
-use Rattle.note_name.proofs.Trimming.{trim_less, trim_all}
-use borrow.Author.Rules.{rules}
 use Rattle.note_name.proofs.trimmed.Given as goal
 
 abbrev pub invariant-loop-n : goal.invariant-loop-n

@@ -1,7 +1,6 @@
 -- `note_properties::gnu_properties` meets its contract. Each answer is the one that its tests pick. Assumes nothing.
 use mathlib.Core.Path.{sym, ◌∙◌}
 use borrow.Author.Tests.{lt-ltb, le-ltb, eq-eqb, ne_eqb}
-use borrow.Author.Rules.{rules}
 use Rattle.note_properties.proofs.gnu_properties.Goals as goal
 
 pub returns-then-name-gt-LIMIT : goal.returns-then-name-gt-LIMIT

@@ -7,7 +7,6 @@ use Rattle.endian.specs.First.{same}
 use Rattle.note_name.specs.LentPart.{Part}
 use Rattle.note_properties.specs.Properties.{gnu, is_gnu}
 use Rattle.note_properties.proofs.GnuName.{same_not, gnu_last}
-use borrow.Author.Rules.{rules}
 use Rattle.note_properties.proofs.is_gnu.Goals as goal
 
 abbrev bytes_of : Part → List ℕ

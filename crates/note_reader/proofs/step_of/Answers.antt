@@ -1,6 +1,5 @@
 -- `note_reader::step_of` meets its contract: the reader is the one of the step's own answer. Assumes nothing.
 use mathlib.Core.Path.{ap}
-use borrow.Author.Rules.{rules}
 use Rattle.note_reader.specs.Moved.{moved}
 use Rattle.note_reader.proofs.step_of.Goals as goal
 

@@ -1,5 +1,4 @@
 -- `property_reader::padded` meets its contract. Each arm is its class's own. Assumes nothing.
-use borrow.Author.Rules.{rules}
 use native.Mathlib.Omega.{arith}
 use Rattle.property_reader.proofs.padded.Goals as goal
 

@@ -1,6 +1,5 @@
 -- `property_reader::property_number` meets its contract. Each answer is the one that its tests pick. Assumes nothing.
 use borrow.Author.Tests.{lt-ltb, le-ltb}
-use borrow.Author.Rules.{rules}
 use Rattle.property_reader.proofs.property_number.Goals as goal
 
 pub returns-then-part-gt-LIMIT : goal.returns-then-part-gt-LIMIT

@@ -1,16 +1,12 @@
 -- `readable_names::lowest_unreadable` meets its contract. The invariant: the first from here on is the first of all. The
 -- measure is what is left of the symbols. Assumes nothing.
-use Prim.Native.Nat.{ℕ, ◌-◌}
+use Prim.Native.Nat.{◌-◌}
 use mathlib.Core.Path.{◌≡◌, sym, ap, ◌∙◌}
-use mathlib.Core.Bool.{Bool, not}
-use mathlib.Core.List.{List}
-use borrow.Author.Rules.{rules}
-use Rattle.endian.specs.declared.kinds.Class.{Class}
-use Rattle.endian.specs.declared.kinds.Order.{Order}
+use mathlib.Core.Bool.{not}
 use Rattle.symbol.specs.Table.{symbol_at, symbol_index}
 use Rattle.readable_names.specs.Readable.{readable_in, starts_below}
 use Rattle.readable_names.proofs.Reading.{name_readable_lem}
-use Rattle.lookup.proofs.Searching.{Searching, searching_start, searching_next, searching_here, searching_end}
+use Rattle.lookup.proofs.Searching.{searching_start, searching_next, searching_here, searching_end}
 use Rattle.readable_names.proofs.lowest_unreadable.Goals as goal
 
 pub loop-i-init : goal.loop-i-init

@@ -1,5 +1,4 @@
 -- `readable_names::readable_end` meets its contract: each answer is the one that the test picks. Assumes nothing.
-use borrow.Author.Rules.{rules}
 use borrow.Author.Tests.{lt-ltb, le-ltb}
 use Rattle.readable_names.proofs.readable_end.Goals as goal
 

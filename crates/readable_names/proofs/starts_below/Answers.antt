@@ -1,6 +1,5 @@
 -- `readable_names::starts_below` meets its contract. Each arm is told what `symbol_at` answered. Assumes nothing.
 use mathlib.Core.Path.{sym, ap, ◌∙◌}
-use borrow.Author.Rules.{rules}
 use Rattle.readable_names.specs.Readable.{starts_below}
 use Rattle.readable_names.proofs.starts_below.Goals as goal
 

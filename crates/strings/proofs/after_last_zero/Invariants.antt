@@ -1,13 +1,9 @@
 -- `strings::after_last_zero` meets its contract. The bytes from n on hold no zero, so the answer is that of the first n; n falls.
 -- Assumes nothing.
 use Prim.Native.Nat.{◌≤◌}
-use mathlib.Core.Path.{◌≡◌, sym, ◌∙◌}
-use native.Mathlib.Omega.{arith}
-use native.Mathlib.Nat.{le_refl}
+use mathlib.Core.Path.{◌≡◌}
 use lib.ListN.{length, take}
-use borrow.Author.Rules.{rules}
 use Rattle.strings.specs.AfterZero.{after_zero}
-use Rattle.strings.proofs.Readable.{after_here, after_next, after_whole}
 use Rattle.strings.proofs.after_last_zero.Given as goal
 
 abbrev pub invariant-loop-n : goal.invariant-loop-n

@@ -1,6 +1,5 @@
 -- `strings::string_equals` meets its contract. Assumes nothing.
 use mathlib.Core.Path.{sym, ◌∙◌}
-use borrow.Author.Rules.{rules}
 use Rattle.strings.proofs.Meaning.{equals_long, equals_reads}
 use Rattle.strings.proofs.string_equals.Goals as goal
 

@@ -1,6 +1,5 @@
 -- `symbol_definition::starts_with_dollar` meets its contract. Each arm is told what `string_at` answered. Assumes nothing.
 use mathlib.Core.Path.{sym, ap, ◌∙◌}
-use borrow.Author.Rules.{rules}
 use borrow.Author.Tests.{eq-eqb, ne_eqb}
 use Rattle.symbol_definition.specs.Definition.{dollar, starts_with_dollar}
 use Rattle.symbol_definition.proofs.starts_with_dollar.Goals as goal

@@ -1,11 +1,10 @@
 -- `version_match::equal_at` meets its contract. The invariant: comparing the rest of the part with the rest of the name
 -- gives the answer. The measure is what is left of the name. Assumes nothing.
-use Prim.Native.Nat.{◌+◌, ◌-◌, ◌≤◌}
+use Prim.Native.Nat.{◌-◌}
 use mathlib.Core.Path.{◌≡◌, sym, ◌∙◌}
 use native.Mathlib.Omega.{arith}
 use native.Mathlib.Nat.{add-zero}
-use lib.ListN.{length, take, drop}
-use Rattle.endian.specs.First.{same}
+use lib.ListN.{length}
 use Rattle.version_match.proofs.Compared.{same_step, same_stop, same_end}
 use borrow.Author.Rules.{rules}
 use Rattle.version_match.proofs.equal_at.Goals as goal

@@ -6,7 +6,6 @@ use native.Mathlib.Omega.{arith}
 use lib.ListN.{length}
 use Rattle.version_match.specs.Match.{version_name}
 use Rattle.version_match.proofs.Compared.{part_length, same_apart}
-use borrow.Author.Rules.{rules}
 use Rattle.version_match.proofs.is_needed.Goals as goal
 
 pub returns-then-version-hash : goal.returns-then-version-hash

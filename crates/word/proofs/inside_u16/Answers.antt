@@ -1,5 +1,4 @@
 -- `word::inside_u16` meets its contract. Two bytes: `word_bytes`. Assumes nothing.
-use borrow.Author.Rules.{rules}
 use native.Mathlib.Omega.{arith}
 use Rattle.endian.specs.declared.kinds.Order.TheVariants.{Little}
 use Rattle.endian.proofs.Word.{word_bytes}

@@ -1,5 +1,4 @@
 -- `word::inside_u32` meets its contract. Two halves: `word_join` at 2 and 2. Assumes nothing.
-use borrow.Author.Rules.{rules}
 use native.Mathlib.Omega.{arith}
 use Rattle.endian.specs.declared.kinds.Order.TheVariants.{Little}
 use Rattle.endian.proofs.Word.{word_join}

@@ -1,5 +1,4 @@
 -- `word::little_u16` meets its contract. Past the end: `word_past`. All bytes there: `inside_u16`. Else the tail, of which two bytes are enough. Assumes nothing.
-use borrow.Author.Rules.{rules}
 use mathlib.Core.Path.{sym}
 use native.Mathlib.Omega.{arith}
 use Rattle.endian.specs.declared.kinds.Order.TheVariants.{Little}

@@ -1,5 +1,4 @@
 -- `word::little_u32` meets its contract. Past the end: `word_past`. All bytes there: `inside_u32`. Else the tail, of which four bytes are enough. Assumes nothing.
-use borrow.Author.Rules.{rules}
 use mathlib.Core.Path.{sym}
 use native.Mathlib.Omega.{arith}
 use Rattle.endian.specs.declared.kinds.Order.TheVariants.{Little}

@@ -1,5 +1,4 @@
 -- `word::little_u64` meets its contract. Past the end: `word_past`. All bytes there: `inside_u64`. Else the tail. Assumes nothing.
-use borrow.Author.Rules.{rules}
 use mathlib.Core.Path.{sym}
 use Rattle.endian.specs.declared.kinds.Order.TheVariants.{Little}
 use Rattle.endian.proofs.Word.{word_past}

@@ -1,5 +1,4 @@
 -- `word::swap_u16` meets its contract. Each byte is its own swap, and `swap_halves` at 1. Assumes nothing.
-use borrow.Author.Rules.{rules}
 use Rattle.word.proofs.Swap.{swap_halves, swap_byte}
 use Rattle.word.proofs.swap_u16.Goals as goal
 

@@ -1,5 +1,4 @@
 -- `word::swap_u32` meets its contract. `swap_halves` at 2. Assumes nothing.
-use borrow.Author.Rules.{rules}
 use Rattle.word.proofs.Swap.{swap_halves}
 use Rattle.word.proofs.swap_u32.Goals as goal
 

@@ -1,13 +1,10 @@
 -- `word::tail` meets its contract. The invariant: v is the word from k on, of as many of the 8 bytes as stand there or past the end.
 -- The measure is what is left down to the place. Assumes nothing.
-use Prim.Native.Nat.{◌+◌, ◌*◌, ◌-◌, ◌^◌, ◌≤◌, ◌<◌}
-use mathlib.Core.Path.{◌≡◌, sym}
-use native.Mathlib.Omega.{arith}
-use borrow.Author.Rules.{rules}
-use lib.ListN.{length, get_or}
+use Prim.Native.Nat.{◌+◌, ◌-◌, ◌≤◌}
+use mathlib.Core.Path.{◌≡◌}
+use lib.ListN.{length}
 use Rattle.endian.specs.declared.kinds.Order.TheVariants.{Little}
 use Rattle.endian.specs.Word.{word_at}
-use Rattle.endian.proofs.Word.{word_past, word_more, word_under}
 use Rattle.word.proofs.tail.Given as goal
 
 abbrev pub invariant-loop-k : goal.invariant-loop-k

@@ -11,7 +11,8 @@ loop-i-preserved c =
     let at = c.args.at in
     let i = c.loop-i.i in
     elim c.if-bytes-at-eq0.branch [
-      then-bytes-at-eq0 w ↦ (omega arith, λ none. false_true (sym none ∙ w.found-is)) |
-      else-bytes-at-eq0 w ↦
-        let on : at + (i + 1) ≡ at + i + 1 = omega arith in
-        (omega arith, λ none. rw on (passed_next s at (at + i) (c.loop-i.invariant.1 (sym w.found-is ∙ none)) (omega arith) w.if-bytes-at-eq0.false)) ]
+      | then-bytes-at-eq0 w ↦ (omega arith, λ none. false_true (sym none ∙ w.found-is))
+      | else-bytes-at-eq0 w ↦
+          let on : at + (i + 1) ≡ at + i + 1 = omega arith in
+          (omega arith, λ none. rw on (passed_next s at (at + i) (c.loop-i.invariant.1 (sym w.found-is ∙ none)) (omega arith) w.if-bytes-at-eq0.false))
+    ]

@@ -1,6 +1,5 @@
 -- `zero_search::first_zero` meets its contract: the parts that were passed follow each other. Assumes nothing.
 use native.Mathlib.Omega.{arith}
-use borrow.Author.Rules.{rules}
 use Rattle.endian.proofs.First.{first_end}
 use Rattle.endian.specs.First.{is_zero}
 use Rattle.zero_search.proofs.Passing.{passed_on, passed_all}

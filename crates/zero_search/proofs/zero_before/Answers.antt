@@ -1,8 +1,6 @@
 -- `zero_search::zero_before` meets its contract. No zero stands up to i; what is left before the end falls. Assumes nothing.
-use Prim.Native.Nat.{◌≤◌, ◌-◌}
 use native.Mathlib.Omega.{arith}
 use borrow.Author.Rules.{rules}
-use Rattle.zero_search.specs.Passed.{Passed}
 use Rattle.zero_search.proofs.Passing.{passed_none, passed_next}
 use Rattle.zero_search.proofs.zero_before.Goals as goal
 

@@ -1,6 +1,5 @@
 -- `export::answers::place_answer` meets its contract. Each arm is told which place it has. Assumes nothing.
 use mathlib.Core.Path.{sym, ap}
-use borrow.Author.Rules.{rules}
 use Rattle.export.specs.Answers.{place_of}
 use Rattle.export.proofs.answers.place_answer.Goals as goal
 

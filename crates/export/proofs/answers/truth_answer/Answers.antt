@@ -1,5 +1,4 @@
 -- `export::answers::truth_answer` meets its contract. A truth is its number. Assumes nothing.
-use borrow.Author.Rules.{rules}
 use Rattle.export.proofs.Truth.{truth_byte}
 use Rattle.export.proofs.answers.truth_answer.Goals as goal
 

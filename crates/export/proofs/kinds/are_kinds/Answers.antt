@@ -1,7 +1,5 @@
 -- `export::kinds::are_kinds` meets its contract. Each answer is the one that its test picks. Assumes nothing.
 use mathlib.Core.Path.{sym, ◌∙◌}
-use borrow.Author.Rules.{rules}
-use borrow.Author.Tests.{not-true, not-false}
 use Rattle.export.proofs.kinds.are_kinds.Goals as goal
 
 pub returns-then-not-is_kind : goal.returns-then-not-is_kind

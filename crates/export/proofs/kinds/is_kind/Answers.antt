@@ -1,5 +1,5 @@
 -- `export::kinds::is_kind` meets its contract. Each answer is the one that its test picks. Assumes nothing.
-use Rattle.std.proofs.Common.{arith, rules}
+use Rattle.std.proofs.Common.{rules}
 use Rattle.export.specs.Kinds.{is_kind}
 use Rattle.export.proofs.kinds.is_kind.Goals as goal
 

@@ -1,7 +1,6 @@
 -- `export::lookups::lookup_answer` meets its contract. Each arm is told what was answered. Assumes nothing.
-use mathlib.Core.Path.{◌≡◌, sym, ap, ◌∙◌}
+use mathlib.Core.Path.{sym, ap}
 use Rattle.export.specs.Lookups.{lookup_answer}
-use borrow.Author.Rules.{rules}
 use Rattle.export.proofs.lookups.lookup_answer.Goals as goal
 
 pub returns-in-Found : goal.returns-in-Found

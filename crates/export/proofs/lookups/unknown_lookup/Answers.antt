@@ -1,5 +1,4 @@
 -- `export::lookups::unknown_lookup` meets its contract. Each part is looked at in turn. Assumes nothing.
-use borrow.Author.Rules.{rules}
 use Rattle.export.proofs.lookups.unknown_lookup.Goals as goal
 
 pub returns : goal.returns

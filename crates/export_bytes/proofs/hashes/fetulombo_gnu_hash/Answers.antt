@@ -1,6 +1,5 @@
 -- `export_bytes::hashes::fetulombo_gnu_hash` meets its contract. The hash, as an answer. Assumes nothing.
-use mathlib.Core.Path.{◌≡◌, sym, ap, ◌∙◌}
-use borrow.Author.Rules.{rules}
+use mathlib.Core.Path.{ap, ◌∙◌}
 use Rattle.export_bytes.specs.Hashes.{hash_answer}
 use Rattle.export_bytes.proofs.hashes.fetulombo_gnu_hash.Goals as goal
 

@@ -1,6 +1,5 @@
 -- `export_bytes::hashes::hash_answer` meets its contract. Each arm is told which hash it has. Assumes nothing.
-use mathlib.Core.Path.{◌≡◌, sym, ap, ◌∙◌}
-use borrow.Author.Rules.{rules}
+use mathlib.Core.Path.{sym, ap, ◌∙◌}
 use Rattle.export_bytes.specs.Hashes.{hash_answer}
 use Rattle.export_bytes.proofs.hashes.hash_answer.Goals as goal
 

@@ -1,5 +1,4 @@
 -- `export_bytes::string_table::fetulombo_string_equals` meets its contract. Each answer is the one that its tests pick. Assumes nothing.
-use borrow.Author.Rules.{rules}
 use borrow.Author.Tests.{lt-ltb, le-ltb}
 use Rattle.export_bytes.proofs.string_table.fetulombo_string_equals.Goals as goal
 

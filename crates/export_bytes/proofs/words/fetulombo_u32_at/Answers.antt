@@ -1,7 +1,6 @@
 -- `export_bytes::words::fetulombo_u32_at` meets its contract. Each answer is the one that its test picks. Assumes nothing.
 use mathlib.Core.Path.{sym, ◌∙◌}
-use borrow.Author.Rules.{rules}
-use borrow.Author.Tests.{lt-ltb, le-ltb, not-true, not-false}
+use borrow.Author.Tests.{lt-ltb, le-ltb}
 use Rattle.export_bytes.proofs.words.fetulombo_u32_at.Goals as goal
 
 pub returns-then-not-is_kind : goal.returns-then-not-is_kind

@@ -1,7 +1,6 @@
 -- `export_notes::notes::fetulombo_note_step` meets its contract. Each arm is told whether there is a reader. Assumes nothing.
 use mathlib.Core.Path.{sym, ap, ◌∙◌}
-use borrow.Author.Rules.{rules}
-use borrow.Author.Tests.{lt-ltb, le-ltb, not-true, not-false}
+use borrow.Author.Tests.{lt-ltb, le-ltb}
 use Rattle.export_notes.specs.Notes.{note_answer, step_of}
 use Rattle.export_notes.proofs.notes.fetulombo_note_step.Goals as goal
 

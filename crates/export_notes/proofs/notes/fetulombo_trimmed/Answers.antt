@@ -1,12 +1,10 @@
 -- `export_notes::notes::fetulombo_trimmed` meets its contract. The trimmed part is as long as `trimmed_length` says. Assumes nothing.
-use mathlib.Core.Path.{◌≡◌, sym, ap, ◌∙◌}
+use mathlib.Core.Path.{ap}
 use lib.Seq.{length-take-le}
-use borrow.Author.Rules.{rules}
 use borrow.Author.Tests.{lt-ltb, le-ltb}
 use Rattle.note_name.specs.LentPart.{Part}
 use Rattle.note_name.specs.Trim.{trimmed_length}
 use Rattle.note_name.proofs.Longest.{trimmed_longest}
-use Rattle.export.specs.Answers.{number}
 use Rattle.export_notes.proofs.notes.fetulombo_trimmed.Goals as goal
 
 pub returns-then-name-gt-LIMIT : goal.returns-then-name-gt-LIMIT

@@ -1,7 +1,5 @@
 -- `export_notes::properties::fetulombo_gnu_properties` meets its contract. Each arm is told what was found. Assumes nothing.
 use mathlib.Core.Path.{sym, ap, ◌∙◌}
-use borrow.Author.Rules.{rules}
-use borrow.Author.Tests.{not-true, not-false}
 use Rattle.export_notes.specs.Properties.{kind_answer}
 use Rattle.export_notes.proofs.properties.fetulombo_gnu_properties.Goals as goal
 

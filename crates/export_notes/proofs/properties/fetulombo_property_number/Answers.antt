@@ -1,7 +1,5 @@
 -- `export_notes::properties::fetulombo_property_number` meets its contract. Each arm is told what was read. Assumes nothing.
 use mathlib.Core.Path.{sym, ap, ◌∙◌}
-use borrow.Author.Rules.{rules}
-use borrow.Author.Tests.{not-true, not-false}
 use Rattle.export_notes.specs.Properties.{number_answer}
 use Rattle.export_notes.proofs.properties.fetulombo_property_number.Goals as goal
 

@@ -1,7 +1,5 @@
 -- `export_notes::properties::fetulombo_property_step` meets its contract. The step, as an answer. Assumes nothing.
 use mathlib.Core.Path.{sym, ap, ◌∙◌}
-use borrow.Author.Rules.{rules}
-use borrow.Author.Tests.{not-true, not-false}
 use Rattle.export_notes.specs.Properties.{property_answer}
 use Rattle.export_notes.proofs.properties.fetulombo_property_step.Goals as goal
 

@@ -1,6 +1,5 @@
 -- `export_notes::properties::property_answer` meets its contract. Each arm is told which step it has. Assumes nothing.
-use mathlib.Core.Path.{◌≡◌, sym, ap, ◌∙◌}
-use borrow.Author.Rules.{rules}
+use mathlib.Core.Path.{sym, ap, ◌∙◌}
 use Rattle.export_notes.specs.Properties.{property_answer}
 use Rattle.export_notes.proofs.properties.property_answer.Goals as goal
 

@@ -1,5 +1,4 @@
 -- `export_symbols::facts::fetulombo_symbol_facts` meets its contract. Each fact is what its function says. Assumes nothing.
-use borrow.Author.Rules.{rules}
 use Rattle.export.proofs.Truth.{truth_byte}
 use Rattle.export_symbols.proofs.facts.fetulombo_symbol_facts.Goals as goal
 

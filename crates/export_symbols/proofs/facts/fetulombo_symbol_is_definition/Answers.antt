@@ -1,6 +1,5 @@
 -- `export_symbols::facts::fetulombo_symbol_is_definition` meets its contract. Each arm is told what was said. Assumes nothing.
-use mathlib.Core.Path.{◌≡◌, sym, ap, ◌∙◌}
-use borrow.Author.Rules.{rules}
+use mathlib.Core.Path.{sym, ap, ◌∙◌}
 use Rattle.export_symbols.specs.Facts.{definition_answer}
 use Rattle.export_symbols.proofs.facts.fetulombo_symbol_is_definition.Goals as goal
 

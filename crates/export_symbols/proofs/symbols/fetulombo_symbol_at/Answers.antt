@@ -1,7 +1,5 @@
 -- `export_symbols::symbols::fetulombo_symbol_at` meets its contract. It is the answer of `symbol_at`, laid out, where both numbers are kinds. Assumes nothing.
 use mathlib.Core.Path.{sym, ap, ◌∙◌}
-use borrow.Author.Rules.{rules}
-use borrow.Author.Tests.{not-true, not-false}
 use Rattle.export_symbols.specs.Symbols.{symbol_answer}
 use Rattle.export_symbols.proofs.symbols.fetulombo_symbol_at.Goals as goal
 

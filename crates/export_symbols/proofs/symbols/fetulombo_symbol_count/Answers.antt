@@ -1,7 +1,5 @@
 -- `export_symbols::symbols::fetulombo_symbol_count` meets its contract. Each arm is told what was counted. Assumes nothing.
 use mathlib.Core.Path.{sym, ap, ◌∙◌}
-use borrow.Author.Rules.{rules}
-use borrow.Author.Tests.{not-true, not-false}
 use Rattle.export_symbols.specs.Symbols.{count_answer}
 use Rattle.export_symbols.proofs.symbols.fetulombo_symbol_count.Goals as goal
 

@@ -1,7 +1,5 @@
 -- `export_symbols::symbols::fetulombo_symbol_name` meets its contract. It is the name, laid out, where both numbers are kinds. Assumes nothing.
 use mathlib.Core.Path.{sym, ap, ◌∙◌}
-use borrow.Author.Rules.{rules}
-use borrow.Author.Tests.{not-true, not-false}
 use Rattle.export.specs.Answers.{place_of}
 use Rattle.export_symbols.proofs.symbols.fetulombo_symbol_name.Goals as goal
 

@@ -1,6 +1,5 @@
 -- `export_symbols::symbols::symbol_answer` meets its contract. Each arm is told which symbol it has. Assumes nothing.
 use mathlib.Core.Path.{sym, ap}
-use borrow.Author.Rules.{rules}
 use Rattle.export_symbols.specs.Symbols.{symbol_answer}
 use Rattle.export_symbols.proofs.symbols.symbol_answer.Goals as goal
 

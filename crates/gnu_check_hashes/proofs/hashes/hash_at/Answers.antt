@@ -1,11 +1,8 @@
 -- `gnu_check_hashes::hashes::hash_at` meets its contract. The invariant: hashing the rest of the string, from h, gives the hash.
 -- The measure is what is left of the strings. Assumes nothing.
 use Prim.Native.Nat.{◌-◌}
-use mathlib.Core.Path.{◌≡◌, sym, ◌∙◌}
-use lib.ListN.{length, drop}
-use borrow.Author.Rules.{rules}
-use Rattle.gnu_check_hashes.specs.Names.{hash_at}
-use Rattle.gnu_check_hashes.proofs.Hashing.{hash_from, hash_from_start, hash_from_end, hash_from_step, hash_from_none, hash_at_long}
+use mathlib.Core.Path.{sym, ◌∙◌}
+use Rattle.gnu_check_hashes.proofs.Hashing.{hash_from_start, hash_from_end, hash_from_step, hash_from_none, hash_at_long}
 use Rattle.gnu_check_hashes.proofs.hashes.hash_at.Goals as goal
 
 pub returns-then-strings-gt-LIMIT : goal.returns-then-strings-gt-LIMIT

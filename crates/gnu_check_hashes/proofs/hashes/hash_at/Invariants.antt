@@ -1,11 +1,10 @@
 -- `gnu_check_hashes::hashes::hash_at` meets its contract. The invariant: hashing the rest of the string, from h, gives the hash.
 -- The measure is what is left of the strings. Assumes nothing.
 use Prim.Native.Nat.{◌-◌}
-use mathlib.Core.Path.{◌≡◌, sym, ◌∙◌}
+use mathlib.Core.Path.{◌≡◌}
 use lib.ListN.{length, drop}
-use borrow.Author.Rules.{rules}
 use Rattle.gnu_check_hashes.specs.Names.{hash_at}
-use Rattle.gnu_check_hashes.proofs.Hashing.{hash_from, hash_from_start, hash_from_end, hash_from_step, hash_from_none, hash_at_long}
+use Rattle.gnu_check_hashes.proofs.Hashing.{hash_from}
 use Rattle.gnu_check_hashes.proofs.hashes.hash_at.Given as goal
 
 abbrev pub invariant-loop-i : goal.invariant-loop-i

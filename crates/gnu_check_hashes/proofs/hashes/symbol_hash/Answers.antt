@@ -1,5 +1,4 @@
 -- `gnu_check_hashes::hashes::symbol_hash` meets its contract. Each arm is told what `symbol_at` answered. Assumes nothing.
-use borrow.Author.Rules.{rules}
 use mathlib.Core.Path.{sym, ◌∙◌}
 use Rattle.gnu_check_hashes.proofs.Hashing.{hash_in_at, hash_in_none}
 use Rattle.gnu_check_hashes.proofs.hashes.symbol_hash.Goals as goal

@@ -1,11 +1,9 @@
 -- `gnu_table::filter::bloom_filter` meets its contract. Both bits that were tested are the definition's; each return is then the
 -- law of its answer. Assumes nothing.
-use borrow.Author.Rules.{rules}
 use Prim.Native.Nat.{ℕ, ◌%◌, ◌*◌, ◌<◌, ◌≤◌}
 use mathlib.Core.Path.{◌≡◌, sym, ◌∙◌}
 use native.Mathlib.Omega.{arith}
 use native.Mathlib.Nat.{mod-lt}
-use borrow.Author.Tests.{not-true, not-false}
 use Rattle.gnu_table.specs.Table.{bloom_first, bloom_second}
 use Rattle.gnu_table.specs.Places.{table_at}
 use Rattle.gnu_table.proofs.Filters.{filter_none, filter_first, filter_shift, filter_second, filter_passes}

@@ -1,5 +1,4 @@
 -- `gnu_table::filter::word_at` meets its contract: the word of the class's width. Assumes nothing.
-use borrow.Author.Rules.{rules}
 use mathlib.Core.Path.{◌∙◌}
 use Rattle.gnu_table.proofs.filter.word_at.Goals as goal
 

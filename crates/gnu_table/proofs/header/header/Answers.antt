@@ -1,6 +1,5 @@
 -- `gnu_table::header::header` meets its contract. Each return is the law of its answer; the places that were computed are the
 -- definition's. Assumes nothing.
-use borrow.Author.Rules.{rules}
 use Prim.Native.Nat.{◌+◌, ◌*◌}
 use mathlib.Core.Path.{◌≡◌, sym}
 use native.Mathlib.Omega.{arith}

@@ -1,5 +1,4 @@
 -- `note::reader::align_up` meets its contract. Each arm is its alignment's own. Assumes nothing.
-use borrow.Author.Rules.{rules}
 use native.Mathlib.Omega.{arith}
 use Rattle.note.proofs.reader.align_up.Goals as goal
 

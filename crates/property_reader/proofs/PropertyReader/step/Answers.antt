@@ -4,7 +4,6 @@ use Rattle.endian.specs.Refusals.{too_long, bad_property}
 use Rattle.property_reader.specs.declared.PropertyStep.TheVariants.{Refused}
 use Rattle.property_reader.specs.Reader.{property_next}
 use Rattle.property_reader.proofs.Steps.{kind_read, step_long, step_end, step_short, step_refused, step_property}
-use borrow.Author.Rules.{rules}
 use Rattle.property_reader.proofs.PropertyReader.step.Goals as goal
 
 pub returns-then-bytes-gt-LIMIT : goal.returns-then-bytes-gt-LIMIT

@@ -1,6 +1,5 @@
 -- `segment::table::segment_32` meets its contract. Each field is the word of its place in the layout. Assumes nothing.
 use native.Mathlib.Nat.{add-zero}
-use borrow.Author.Rules.{rules}
 use Rattle.segment.proofs.table.segment_32.Goals as goal
 
 pub returns : goal.returns

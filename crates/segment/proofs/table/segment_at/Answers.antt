@@ -3,7 +3,6 @@ use native.Mathlib.Omega.{arith}
 use borrow.Author.Tests.{lt-ltb, le-ltb, le-leb, lt-leb}
 use Rattle.segment.specs.Table.{segment_at}
 use Rattle.segment.proofs.Records.{end_fits}
-use borrow.Author.Rules.{rules}
 use Rattle.segment.proofs.table.segment_at.Goals as goal
 
 pub returns-then-table-gt-LIMIT : goal.returns-then-table-gt-LIMIT

@@ -1,6 +1,5 @@
 -- `segment::table::segment_count` meets its contract. Each answer is the one that its tests pick. Assumes nothing.
 use borrow.Author.Tests.{lt-ltb, le-ltb}
-use borrow.Author.Rules.{rules}
 use Rattle.segment.proofs.table.segment_count.Goals as goal
 
 pub returns-then-table-gt-LIMIT : goal.returns-then-table-gt-LIMIT

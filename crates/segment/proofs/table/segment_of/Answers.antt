@@ -1,5 +1,4 @@
 -- `segment::table::segment_of` meets its contract. Each arm is its class's own. Assumes nothing.
-use borrow.Author.Rules.{rules}
 use Rattle.segment.proofs.table.segment_of.Goals as goal
 
 pub returns-in-Elf32 : goal.returns-in-Elf32

@@ -2,9 +2,8 @@
 -- than the file. Assumes nothing.
 use mathlib.Core.Path.{sym, ◌∙◌}
 use native.Mathlib.Omega.{arith}
-use borrow.Author.Tests.{lt-ltb, le-ltb, not-true, not-false}
+use borrow.Author.Tests.{lt-ltb, le-ltb}
 use Rattle.segment_data.proofs.Inside.{in_file_true, here_true}
-use borrow.Author.Rules.{rules}
 use Rattle.segment_data.proofs.part.segment_data_range.Goals as goal
 
 pub returns-then-file-gt-LIMIT : goal.returns-then-file-gt-LIMIT

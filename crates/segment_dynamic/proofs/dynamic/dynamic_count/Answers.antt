@@ -1,5 +1,4 @@
 -- `segment_dynamic::dynamic::dynamic_count` meets its contract. Each arm is its class's own. Assumes nothing.
-use borrow.Author.Rules.{rules}
 use Rattle.segment_dynamic.proofs.dynamic.dynamic_count.Goals as goal
 
 pub returns-in-Elf32 : goal.returns-in-Elf32

@@ -3,7 +3,6 @@ use native.Mathlib.Omega.{arith}
 use borrow.Author.Tests.{lt-ltb, le-ltb, le-leb, lt-leb}
 use Rattle.segment_dynamic.specs.Dynamic.{dynamic_entry}
 use Rattle.segment_dynamic.proofs.Entries.{end_fits}
-use borrow.Author.Rules.{rules}
 use Rattle.segment_dynamic.proofs.dynamic.dynamic_entry.Goals as goal
 
 pub returns-then-bytes-gt-LIMIT : goal.returns-then-bytes-gt-LIMIT

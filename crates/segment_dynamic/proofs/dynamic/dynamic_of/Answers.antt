@@ -1,6 +1,5 @@
 -- `segment_dynamic::dynamic::dynamic_of` meets its contract. Each field is the word of its place in the layout. Assumes nothing.
 use native.Mathlib.Nat.{add-zero}
-use borrow.Author.Rules.{rules}
 use Rattle.segment_dynamic.proofs.dynamic.dynamic_of.Goals as goal
 
 pub returns-in-Elf32 : goal.returns-in-Elf32

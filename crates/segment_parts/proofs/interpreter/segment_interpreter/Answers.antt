@@ -2,10 +2,9 @@
 -- Assumes nothing.
 use mathlib.Core.Path.{sym, ap, ◌∙◌}
 use native.Mathlib.Omega.{arith}
-use borrow.Author.Tests.{lt-ltb, le-ltb, eq-eqb, ne_eqb, not-true, not-false}
+use borrow.Author.Tests.{lt-ltb, le-ltb, eq-eqb, ne_eqb}
 use Rattle.segment_data.proofs.Inside.{in_file_true}
 use Rattle.segment_parts.proofs.Zero.{from_string, interpreter_string}
-use borrow.Author.Rules.{rules}
 use Rattle.segment_parts.proofs.interpreter.segment_interpreter.Goals as goal
 
 pub returns-then-file-gt-LIMIT : goal.returns-then-file-gt-LIMIT

@@ -1,8 +1,7 @@
 -- `segment_parts::notes::segment_notes` meets its contract. Each arm is told what `reader_for` answered. Assumes nothing.
 use mathlib.Core.Path.{sym, ap, ◌∙◌}
-use borrow.Author.Tests.{lt-ltb, le-ltb, eq-eqb, ne_eqb, not-true, not-false}
+use borrow.Author.Tests.{lt-ltb, le-ltb, eq-eqb, ne_eqb}
 use Rattle.segment_parts.specs.SegmentNotes.{read_by}
-use borrow.Author.Rules.{rules}
 use Rattle.segment_parts.proofs.notes.segment_notes.Goals as goal
 
 pub returns-then-file-gt-LIMIT : goal.returns-then-file-gt-LIMIT

@@ -1,7 +1,6 @@
 -- `symbol::table::symbol_at` meets its contract. Each answer is the one that its tests pick. Assumes nothing.
 use mathlib.Core.Path.{ap}
 use native.Mathlib.Omega.{arith}
-use borrow.Author.Rules.{rules}
 use borrow.Author.Tests.{lt-ltb, le-ltb, eq-eqb, ne_eqb, le-leb, lt-leb}
 use Rattle.symbol.specs.declared.table.SymbolAt.TheVariants.{At}
 use Rattle.symbol.specs.Table.{symbol_at}

@@ -1,5 +1,4 @@
 -- `symbol::table::symbol_count` meets its contract. Each answer is the one that its tests pick. Assumes nothing.
-use borrow.Author.Rules.{rules}
 use borrow.Author.Tests.{lt-ltb, le-ltb}
 use Rattle.symbol.proofs.table.symbol_count.Goals as goal
 

@@ -1,5 +1,4 @@
 -- `symbol::table::symbol_of` meets its contract. Each field is the word of its place in the layout; a field of one byte is a word of one. Assumes nothing.
-use borrow.Author.Rules.{rules}
 use Prim.Native.Nat.{◌+◌}
 use native.Mathlib.Nat.{add-zero}
 use Rattle.endian.proofs.Word.{word_byte}

@@ -2,7 +2,6 @@
 use Prim.Native.Nat.{ℕ}
 use mathlib.Core.Path.{ap}
 use lib.Dec.{eqb}
-use borrow.Author.Rules.{rules}
 use Rattle.symbol_entry.proofs.Symbol.is_local.Goals as goal
 
 pub returns : goal.returns

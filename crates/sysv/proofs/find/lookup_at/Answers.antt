@@ -4,7 +4,6 @@ use mathlib.Core.Path.{sym, ◌∙◌}
 use native.Mathlib.Nat.{mod-lt}
 use native.Mathlib.Omega.{arith}
 use Rattle.sysv.proofs.Headers.{lookup_none, lookup_walk}
-use borrow.Author.Rules.{rules}
 use Rattle.sysv.proofs.find.lookup_at.Goals as goal
 
 pub returns-then-buckets-eq0 : goal.returns-then-buckets-eq0

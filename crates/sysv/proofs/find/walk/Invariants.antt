@@ -1,12 +1,9 @@
 -- `sysv::find::walk` meets its contract. The invariant: the numbers that are left, after the probes that were made, give the
 -- answer. The measure is what is left of the tests. Assumes nothing.
 use Prim.Native.Nat.{◌+◌, ◌*◌, ◌-◌, ◌^◌, ◌≤◌, ◌<◌}
-use mathlib.Core.Path.{sym, ◌∙◌}
-use native.Mathlib.Omega.{arith}
-use borrow.Author.Rules.{rules}
 use Rattle.endian.specs.Word.{word_at}
 use Rattle.lookup.specs.Wanted.{wanted_in}
-use Rattle.sysv.proofs.Walking.{Walking, walking_start, walking_zero, walking_spent, walking_match, walking_past, walking_on}
+use Rattle.sysv.proofs.Walking.{Walking}
 use Rattle.sysv.proofs.find.walk.Given as goal
 
 abbrev pub invariant-loop-i : goal.invariant-loop-i

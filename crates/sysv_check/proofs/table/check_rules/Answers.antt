@@ -1,10 +1,8 @@
 -- `sysv_check::table::check_rules` meets its contract. Each return is told what the passes answered. Assumes nothing.
 use Prim.Native.Nat.{ℕ}
 use mathlib.Core.Path.{sym, ap, ◌∙◌}
-use borrow.Author.Tests.{not-true, not-false}
 use Rattle.symbol.specs.declared.table.SymbolIndex.{SymbolIndex}
 use Rattle.sysv_check.proofs.Passes.{shaped_facts, check_1, check_2, check_3, check_all}
-use borrow.Author.Rules.{rules}
 use Rattle.sysv_check.proofs.table.check_rules.Goals as goal
 
 -- the number of a symbol

@@ -1,13 +1,11 @@
 -- `sysv_check_chains::chains::chain_ends` meets its contract. The invariant: what is left of the chain, with the steps that are left,
 -- gives the answer. The measure is the steps that are left. Assumes nothing.
-use Prim.Native.Nat.{◌+◌, ◌*◌, ◌^◌, ◌<◌}
 use mathlib.Core.Path.{ap}
 use native.Mathlib.Omega.{arith}
 use borrow.Author.Rules.{rules}
 use borrow.Author.Tests.{lt-leb, le-leb, lt-ltb, le-ltb}
-use Rattle.endian.specs.Word.{word_at}
-use Rattle.sysv_check_chains.specs.Pass.{in_range, ended}
-use Rattle.sysv_check_chains.proofs.Following.{Following, following_start, following_zero, following_spent, following_bad, following_on}
+use Rattle.sysv_check_chains.specs.Pass.{ended}
+use Rattle.sysv_check_chains.proofs.Following.{following_start, following_zero, following_spent, following_bad, following_on}
 use Rattle.sysv_check_chains.proofs.chains.chain_ends.Goals as goal
 
 pub loop-i-init : goal.loop-i-init

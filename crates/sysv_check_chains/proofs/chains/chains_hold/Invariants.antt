@@ -1,14 +1,12 @@
 -- `sysv_check_chains::chains::chains_hold` meets its contract. The invariant: the buckets that are left, with the steps that are
 -- left, give the answer. The measure is how many buckets are left. Assumes nothing.
 use Prim.Native.Nat.{◌+◌, ◌-◌, ◌*◌, ◌%◌}
-use mathlib.Core.Path.{◌≡◌, sym, ◌∙◌}
-use borrow.Author.Rules.{rules}
-use borrow.Author.Tests.{not-true}
+use mathlib.Core.Path.{◌≡◌}
 use Rattle.endian.specs.Word.{word_at}
 use Rattle.lookup.specs.Wanted.{name_of}
 use Rattle.sysv_check_chains.specs.Pass.{may_stand}
 use Rattle.sysv_check_chains.specs.Hash.{sysv_hash_at}
-use Rattle.sysv_check_chains.proofs.Following.{range_wrong, Passing, passing_start, passing_wrong, passing_on, passing_end}
+use Rattle.sysv_check_chains.proofs.Following.{Passing}
 use Rattle.sysv_check_chains.proofs.chains.chains_hold.Given as goal
 
 abbrev pub invariant-loop-b : goal.invariant-loop-b

@@ -1,15 +1,10 @@
 -- `sysv_check_chains::chains::follow` meets its contract. The invariant: what is left of the chain, with the steps that are left,
 -- gives the answer. The measure is the steps that are left. Assumes nothing.
-use Prim.Native.Nat.{◌+◌, ◌*◌, ◌%◌, ◌^◌, ◌<◌}
 use mathlib.Core.Path.{sym, ◌∙◌}
 use native.Mathlib.Omega.{arith}
 use borrow.Author.Rules.{rules}
-use borrow.Author.Tests.{not-true, not-false}
-use Rattle.endian.specs.Word.{word_at}
-use Rattle.lookup.specs.Wanted.{name_of}
-use Rattle.sysv_check_chains.specs.Hash.{sysv_hash_at}
 use Rattle.sysv_check_chains.specs.Pass.{may_stand}
-use Rattle.sysv_check_chains.proofs.Following.{Following, following_start, following_zero, following_spent, following_bad, following_on}
+use Rattle.sysv_check_chains.proofs.Following.{following_start, following_zero, following_spent, following_bad, following_on}
 use Rattle.sysv_check_chains.proofs.chains.follow.Goals as goal
 
 pub loop-number-init : goal.loop-number-init

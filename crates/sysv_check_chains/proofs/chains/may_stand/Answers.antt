@@ -1,6 +1,5 @@
 -- `sysv_check_chains::chains::may_stand` meets its contract. Each return is a case of `may_stand`. Assumes nothing.
 use borrow.Author.Tests.{lt-leb, le-leb, lt-ltb, le-ltb}
-use borrow.Author.Rules.{rules}
 use Rattle.sysv_check_chains.proofs.chains.may_stand.Goals as goal
 
 pub returns-then-i-low : goal.returns-then-i-low

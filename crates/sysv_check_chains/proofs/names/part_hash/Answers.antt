@@ -1,7 +1,6 @@
 -- `sysv_check_chains::names::part_hash` meets its contract. A part of the strings is not too long. Assumes nothing.
 use mathlib.Core.Path.{sym, ◌∙◌}
 use Rattle.sysv_check_chains.proofs.Readings.{part_hash, part_refused}
-use borrow.Author.Rules.{rules}
 use Rattle.sysv_check_chains.proofs.names.part_hash.Goals as goal
 
 pub returns-in-Hash : goal.returns-in-Hash

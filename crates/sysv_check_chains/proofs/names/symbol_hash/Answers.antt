@@ -1,7 +1,6 @@
 -- `sysv_check_chains::names::symbol_hash` meets its contract. Each arm is told what `symbol_name` answered. Assumes nothing.
 use mathlib.Core.Path.{sym, ◌∙◌}
 use Rattle.sysv_check_chains.proofs.Readings.{name_inside, hash_read, hash_unread}
-use borrow.Author.Rules.{rules}
 use Rattle.sysv_check_chains.proofs.names.symbol_hash.Goals as goal
 
 pub part_hash-requires : goal.part_hash-requires

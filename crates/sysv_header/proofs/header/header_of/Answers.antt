@@ -1,5 +1,4 @@
 -- `sysv_header::header::header_of` meets its contract. Each return is a case of `header_at`. Assumes nothing.
-use borrow.Author.Rules.{rules}
 use borrow.Author.Tests.{lt-ltb, le-ltb}
 use Rattle.sysv_header.specs.Reading.{header_at}
 use Rattle.sysv_header.proofs.header.header_of.Goals as goal

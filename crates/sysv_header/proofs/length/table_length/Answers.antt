@@ -1,6 +1,5 @@
 -- `sysv_header::length::table_length` meets its contract. Each arm is told what `header_of` answered. Assumes nothing.
 use mathlib.Core.Path.{sym, ap, ◌∙◌}
-use borrow.Author.Rules.{rules}
 use Rattle.sysv_header.proofs.Headers.{count_from, length_from}
 use Rattle.sysv_header.proofs.length.table_length.Goals as goal
 

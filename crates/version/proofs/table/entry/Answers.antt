@@ -2,7 +2,6 @@
 use borrow.Author.Tests.{lt-ltb, le-ltb}
 use mathlib.Core.Path.{sym, ◌∙◌}
 use Rattle.version.specs.Table.{entry_at}
-use borrow.Author.Rules.{rules}
 use Rattle.version.proofs.table.entry.Goals as goal
 
 pub returns-then-strings-gt-LIMIT : goal.returns-then-strings-gt-LIMIT

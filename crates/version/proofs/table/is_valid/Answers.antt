@@ -1,7 +1,6 @@
 -- `version::table::is_valid` meets its contract. Each return is a case of `valid`. Assumes nothing.
 use borrow.Author.Tests.{eq-eqb, ne_eqb}
 use Rattle.version.specs.Table.{valid}
-use borrow.Author.Rules.{rules}
 use Rattle.version.proofs.table.is_valid.Goals as goal
 
 pub returns-then-version-eq-DEFINITION : goal.returns-then-version-eq-DEFINITION

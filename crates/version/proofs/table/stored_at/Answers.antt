@@ -1,7 +1,6 @@
 -- `version::table::stored_at` meets its contract. Assumes nothing.
 use native.Mathlib.Nat.{add-zero}
 use Rattle.version.specs.Table.{stored_at}
-use borrow.Author.Rules.{rules}
 use Rattle.version.proofs.table.stored_at.Goals as goal
 
 pub returns : goal.returns

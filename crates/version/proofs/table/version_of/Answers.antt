@@ -1,7 +1,6 @@
 -- `version::table::version_of` meets its contract. Each return is a case of `versym_at`. Assumes nothing.
 use borrow.Author.Tests.{lt-ltb, le-ltb}
 use Rattle.version.specs.Table.{versym_at}
-use borrow.Author.Rules.{rules}
 use Rattle.version.proofs.table.version_of.Goals as goal
 
 pub returns-then-versyms-gt-LIMIT : goal.returns-then-versyms-gt-LIMIT

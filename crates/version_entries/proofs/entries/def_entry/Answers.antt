@@ -2,7 +2,6 @@
 -- version. Assumes nothing.
 use mathlib.Core.Path.{sym, ◌∙◌}
 use Rattle.version_entries.proofs.Entered.{entered_over, entered_kept, def_past}
-use borrow.Author.Rules.{rules}
 use Rattle.version_entries.proofs.entries.def_entry.Goals as goal
 
 pub returns-then-s-def : goal.returns-then-s-def

@@ -3,7 +3,6 @@
 use mathlib.Core.Path.{sym, ap, ◌∙◌}
 use Rattle.version.specs.Index.{is_special}
 use Rattle.version_entries.proofs.Entered.{entered_over, entered_kept, need_past}
-use borrow.Author.Rules.{rules}
 use Rattle.version_entries.proofs.entries.need_entry.Goals as goal
 
 pub returns-then-s-aux : goal.returns-then-s-aux

@@ -1,7 +1,6 @@
 -- `version_entries::entries::passed_over` meets its contract. Each test is one of `passed_over`. Assumes nothing.
 use mathlib.Core.Path.{sym, ap, ◌∙◌}
 use Rattle.version.specs.Index.{is_special}
-use borrow.Author.Rules.{rules}
 use Rattle.version_entries.proofs.entries.passed_over.Goals as goal
 
 pub is_base-requires : goal.is_base-requires

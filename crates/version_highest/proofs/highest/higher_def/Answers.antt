@@ -4,18 +4,9 @@ use Rattle.version_records.specs.Outcome.Outcome.{fine}
 use Rattle.version_highest.specs.Highest.{higher_of, def_indices}
 use Rattle.version_highest.proofs.highest.higher_def.Goals as goal
 
-pub is_base-requires : goal.is_base-requires
-is_base-requires c = tt
-
 pub returns-then-is_base : goal.returns-then-is_base
 unfolding def_indices
 returns-then-is_base c = rw (sym c.is_base.ensures ∙ c.if-is_base.true)
-
-pub def_index-requires : goal.def_index-requires
-def_index-requires c = tt
-
-pub higher-requires : goal.higher-requires
-higher-requires c = tt
 
 pub returns : goal.returns
 unfolding def_indices

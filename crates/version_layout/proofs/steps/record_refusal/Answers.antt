@@ -1,5 +1,4 @@
 -- `version_layout::steps::record_refusal` meets its contract. Assumes nothing.
-use borrow.Author.Rules.{rules}
 use Rattle.version_layout.proofs.steps.record_refusal.Goals as goal
 
 pub returns-in-Is : goal.returns-in-Is

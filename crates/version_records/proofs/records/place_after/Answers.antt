@@ -1,7 +1,6 @@
 -- `version_records::records::place_after` meets its contract. Assumes nothing.
 use borrow.Author.Tests.{eq-eqb, ne_eqb}
 use Rattle.version_records.specs.Records.{place_after}
-use borrow.Author.Rules.{rules}
 use Rattle.version_records.proofs.records.place_after.Goals as goal
 
 pub returns-then-next-eq0 : goal.returns-then-next-eq0

@@ -2,7 +2,6 @@
 -- past the end nothing is left. Assumes nothing.
 use native.Mathlib.Omega.{arith}
 use Rattle.version_records.proofs.Tests.{record_short, record_bad_aux, record_bad_next, record_whole}
-use borrow.Author.Rules.{rules}
 use Rattle.version_records.proofs.records.record_at.Goals as goal
 
 pub returns-then-s-at : goal.returns-then-s-at

@@ -5,7 +5,6 @@ use Rattle.endian.specs.Refusals.{too_long, note_short, bad_note_name, bad_note_
 use Rattle.note.specs.Notes.{aligned}
 use Rattle.note.specs.declared.reader.NoteStep.TheVariants.{Refused}
 use Rattle.note.proofs.Steps.{name_read, step_long, step_end, step_short, step_name, step_descriptor, step_note}
-use borrow.Author.Rules.{rules}
 use Rattle.note.proofs.reader.NoteReader.step.Goals as goal
 
 pub returns-then-bytes-gt-LIMIT : goal.returns-then-bytes-gt-LIMIT
