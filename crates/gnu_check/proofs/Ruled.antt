@@ -2,7 +2,7 @@
 -- Assumes nothing.
 use Prim.Native.Nat.{ℕ, ◌+◌, ◌*◌, ◌/◌, ◌%◌, ◌≤◌, ◌<◌}
 use mathlib.Core.Path.{◌≡◌, sym, ap, ◌∙◌}
-use mathlib.Core.Bool.{true, false, not, ◌&&◌, or-true, and_false, true≢false}
+use mathlib.Core.Bool.{true, false, not, ◌&&◌, or-true, and-false, true≢false}
 use native.Mathlib.Omega.{arith}
 use lib.Dec.{leb, ltb, eqb}
 use borrow.Author.Tests.{leb-true, ltb-true, eqb-true, eqb-false, eq-eqb}
@@ -37,7 +37,7 @@ module _ (t : GnuTable) (right : (i : ℕ) → t.base ≤ i → i < t.count → 
       (λ mine. by-test (may_be (value_of t v) t.bucket_count b) (λ may. rw may)
       (λ out. absurd (may_not t b v (right v (leb-true _ _ (and_left (leb t.base v) (ltb v t.count) within))
       (ltb-true _ _ (and_right (leb t.base v) (ltb v t.count) within))) out (eqb-true _ _ mine))))
-      (λ other. rw (other, and_false)))
+      (λ other. rw (other, and-false)))
       (λ outside. rw outside)
 
   pub stray_plain : (b : ℕ) → stray t b ≡ plain_stray t b

@@ -7,7 +7,7 @@
 --     right_kept, kept_right        it is G9
 -- Assumes nothing.
 use mathlib.Core.Path.{◌≡◌, refl, sym, ap, ◌∙◌, subst, subst₂}
-use mathlib.Core.Bool.{Bool, true, false, not, ◌&&◌, ◌||◌, false≢true, and_false}
+use mathlib.Core.Bool.{Bool, true, false, not, ◌&&◌, ◌||◌, false≢true, and-false}
 use mathlib.Core.Logic.{⊎_elim}
 use mathlib.Core.List.{List, [], ◌∷◌}
 use Prim.Native.Nat.{ℕ, zero, suc, ◌+◌, ◌-◌, ◌≤◌, ◌<◌}
@@ -174,7 +174,7 @@ module _ (t : GnuTable) where
           let begun = start_begins b v (first_of v (le_refl v) (omega arith))
           (inside t b v (length ms) run v (le_refl v) (omega arith)).0.1 in
           record {
-            own = rw (begun, and_false);
+            own = rw (begun, and-false);
             placed = λ i lo hi mine.
                 let o = outside t b v (length ms) run i lo hi (eq-eqb _ _ mine) in
                 start_unique b v (run_start t (i - t.base)) i (first_of i o.0 o.1) (rw mine at (start_of i lo));
