@@ -1,5 +1,4 @@
 -- `marks::marks_by` meets its contract. Assumes nothing.
-use borrow.Author.Rules.{rules}
 use Rattle.marks.proofs.marks_by.Goals as goal
 
 pub returns-in-Any : goal.returns-in-Any

@@ -4,7 +4,6 @@ use lib.Dec.{ltb}
 use mathlib.Core.Path.{sym, ap, ◌∙◌}
 use Rattle.marks.specs.declared.MarksAt.TheVariants.{At}
 use Rattle.marks.specs.Marks.{marks_by, found_marks}
-use borrow.Author.Rules.{rules}
 use Rattle.marks.proofs.marks_for.Goals as goal
 
 pub returns-in-At : goal.returns-in-At

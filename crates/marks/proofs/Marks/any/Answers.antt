@@ -1,5 +1,4 @@
 -- `marks::Marks::any` meets its contract: the marks in order. Assumes nothing.
-use borrow.Author.Rules.{rules}
 use Rattle.marks.proofs.Marks.any.Goals as goal
 
 pub returns : goal.returns
