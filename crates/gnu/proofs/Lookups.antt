@@ -1,7 +1,7 @@
 -- A lookup in a table, a law for each answer, under the tests before it.
---     start_none, -past, -below, -values, -is     where the walk of a hash starts
+--     start_none, _past, _below, _values, _is     where the walk of a hash starts
 --     InRange, start_range                        a start that is not 0 is a symbol of the table, with a value
---     lookup_stops, -refuses, -nowhere, -walks    what the lookup gives
+--     lookup_stops, _refuses, _nowhere, _walks    what the lookup gives
 -- Assumes nothing.
 use Prim.Native.Nat.{ℕ, ◌-◌, ◌%◌, ◌≤◌, ◌<◌}
 use mathlib.Core.Path.{◌≡◌, sym}

@@ -2,10 +2,10 @@
 --     judge_header, header_broken, header_kept    the answer by G1 to G5; what a table keeps that breaks none of them
 --     number                                      the number of a symbol that a pass answers
 --     bits_search                                 what the bloom filter says of G8
---     from_names_6, -7, -8, -kept                 the answer by G6 to G8
+--     from_names_6, _7, _8, _kept                 the answer by G6 to G8
 --     wrong_bucket_lem, right_buckets             what the pass over the buckets says of G9
 --     ends_search                                 what the pass by the next symbol looks for
---     from-buckets-9, -10, -accepted              the answer by G9 and G10
+--     from_buckets_9, _10, _accepted              the answer by G9 and G10
 --     check_from, check_told                      the answer by what was read of the parts
 -- Assumes nothing.
 use Prim.Native.Nat.{ℕ, zero, suc, ◌+◌, ◌-◌, ◌≤◌, ◌<◌}

@@ -1,6 +1,6 @@
 -- The hash of a string, from a place on, with h so far; of a string that has no end it is the hash of the empty name.
 --     hash_from                              that hash
---     hash_from_start, -end, -step, -none    where it starts, at a zero, at another byte, past the bytes
+--     hash_from_start, _end, _step, _none    where it starts, at a zero, at another byte, past the bytes
 --     hash_at_long                           strings that are too long
 --     hash_in_at, hash_in_none               the hash of a symbol's name: by its record, and where there is none
 -- Assumes nothing.

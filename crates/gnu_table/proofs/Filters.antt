@@ -1,5 +1,5 @@
 -- What the bloom filter says of a hash, a law for each answer, under the tests before it.
---     filter_none, -first, -shift, -second, -passes    what `bloom_filter` is
+--     filter_none, _first, _shift, _second, _passes    what `bloom_filter` is
 -- Assumes nothing.
 use Prim.Native.Nat.{ℕ, ◌≤◌, ◌<◌}
 use mathlib.Core.Path.{◌≡◌}

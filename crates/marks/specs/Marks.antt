@@ -1,8 +1,8 @@
 -- The marks of an import: what is against signing it, beside document 01's answer.
---     no_entry_marks    where no symbol is found
---     marks_by, found_marks, marks_for of a need, the counts and an answer
---     marks_of    of an import and its answer; 1 for a part or a name too long
---     any_mark    whether the line is not to be signed
+--     no_entry_marks                      where no symbol is found
+--     marks_by, found_marks, marks_for    of a need, the counts and an answer
+--     marks_of                            of an import and its answer; 1 for a part or a name too long
+--     any_mark                            whether the line is not to be signed
 -- Assumes nothing.
 use Rattle.std.specs.Prelude.{ℕ, Bool, false, cond, ◌||◌, List, [], ◌∷◌, ltb}
 use Rattle.endian.specs.declared.kinds.Class.{Class}

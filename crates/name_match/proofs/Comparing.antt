@@ -1,10 +1,10 @@
 -- The comparison of a name with the bytes from a place on.
---     reads_zero, -differ, -next, -last, -short    one step of a comparison, on lists
---     reads_step, -stop, -ended, -end              the same, of the byte i of the name
+--     reads_zero, _differ, _next, _last, _short    one step of a comparison, on lists
+--     reads_step, _stop, _ended, _end              the same, of the byte i of the name
 --     reads_back                                   what is no match from a byte on is none from the start
 --     reads_other                                  one byte that is not the same: no match
 --     reads_all                                    all are: what follows them decides
---     same_none, -next, -join                      the bytes that were seen to be the same grow
+--     same_none, _next, _join                      the bytes that were seen to be the same grow
 --     fewer, missed                                of the counted bytes: not all are; the last one is not, or one before it
 -- Assumes nothing.
 use Prim.Native.Nat.{ℕ, zero, suc, ◌<◌, ◌≤◌, ◌+◌}

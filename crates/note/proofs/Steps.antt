@@ -1,6 +1,6 @@
 -- Each answer of the note reader's step, by what its tests say: a step counts what is left from its place on.
 --     name_read                                     the name's size, read at the place itself
---     step_long, -end, -short, -name, -descriptor   the refusals and the end
+--     step_long, _end, _short, _name, _descriptor   the refusals and the end
 --     step_note                                     a note
 -- Assumes nothing.
 use Prim.Native.Nat.{ℕ, ◌+◌, ◌-◌, ◌<◌, ◌≤◌}

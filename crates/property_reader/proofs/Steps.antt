@@ -1,6 +1,6 @@
 -- Each answer of the property reader's step, by what its tests say: a step counts what is left from its place on.
 --     kind_read                    the type, read at the place itself
---     step_long, -end, -refused    the refusals and the end
+--     step_long, _end, _refused    the refusals and the end
 --     step_property                a property
 --     refused_stays                a refused reader is at its end
 -- Assumes nothing.

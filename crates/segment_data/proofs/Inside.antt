@@ -2,7 +2,7 @@
 --     leb_same                      two tests that say the same
 --     in_file_rest, in_file_past    `is_in_file`: by what is left after the offset, and by an offset past the end
 --     in_file_true                  what it says
---     here_below, -past, -rest      `is_here`: by the address, by how far it is from vaddr, and by what is left after that
+--     here_below, _past, _rest      `is_here`: by the address, by how far it is from vaddr, and by what is left after that
 --     here_true                     what it says
 -- Assumes nothing.
 use Prim.Native.Nat.{ℕ, ◌+◌, ◌-◌, ◌<◌, ◌≤◌}

@@ -1,5 +1,5 @@
 -- Which strings can be read, by the last zero byte, and the search for it from the end.
---     readable_true, -false    whether there is a zero from its start on
+--     readable_true, _false    whether there is a zero from its start on
 --     readable_below           a string can be read exactly if it starts below the place after the last zero
 --     after_here               the byte before n is zero: that place is n
 --     after_next               it is another: look among the bytes before it

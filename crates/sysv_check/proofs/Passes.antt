@@ -1,6 +1,6 @@
 -- The checker's answer from the answers of its passes, and from what its first steps refuse.
 --     shaped_facts                  what T1 leaves to the passes after it
---     check_1, -2, -3, -all         the first rule that is broken, or none
+--     check_1, _2, _3, _all         the first rule that is broken, or none
 --     check_from, check_from_lem    the checker's answer by the counted symbols and the header
 --     count_read                    symbols that were counted
 -- Assumes nothing.

@@ -1,9 +1,9 @@
 -- The checker's walk along a chain, number by number, and along the chains.
 --     Following                                    a walk that stands at a number, with so many steps left: what is left of the chain gives the answer
---     following_start, -zero, -spent, -bad, -on    at its start; at 0; with no step left; at a number that may not stand there; at another
+--     following_start, _zero, _spent, _bad, _on    at its start; at 0; with no step left; at a number that may not stand there; at another
 --     range_wrong                                  a chain on which a number is out of range, or that does not end: something is wrong with it
 --     Passing                                      a pass that stands at a bucket, with so many steps left: the buckets that are left give the answer
---     passing_start, -wrong, -on, -end             at its start; a chain with something wrong; a chain without; after the last
+--     passing_start, _wrong, _on, _end             at its start; a chain with something wrong; a chain without; after the last
 -- Assumes nothing.
 use mathlib.Core.Path.{◌≡◌, refl, sym, ap, ◌∙◌}
 use mathlib.Core.Bool.{Bool, true, false, ◌&&◌}

@@ -1,10 +1,10 @@
 -- A store with room for the highest index has room for every record.
---     all_first, all_rest what holds of every record of a list
---     entry_fits      room for an entry that is stored
---     entry_room      room for what a record stores, where it is not passed over
---     folded_keeps    the highest index only grows
---     all_room        a list: room for each of its records, from room for its highest index
---     highest_room    both lists
+--     all_first, all_rest    what holds of every record of a list
+--     entry_fits             room for an entry that is stored
+--     entry_room             room for what a record stores, where it is not passed over
+--     folded_keeps           the highest index only grows
+--     all_room               a list: room for each of its records, from room for its highest index
+--     highest_room           both lists
 -- Assumes nothing.
 use Prim.Native.Nat.{ℕ, ◌≤◌}
 use mathlib.Core.Path.{◌≡◌, refl, sym, ap, ◌∙◌}

@@ -31,13 +31,6 @@ overflow_add-end c =
     let within = in_file_true args.file.now args.segment inside in
     record { fits = omega (arith, called.if-file-gt-LIMIT.false) }
 
--- NO GOAL slice-bounds-string-at-end
--- part-string-at-end : tie.Need-slice-bounds-string-at-end
--- part-string-at-end c =
---     let called = c.before in
---     let args = called.before.before.before.before.before.args in
---     in_file_true args.file.now args.segment (sym called.is-in-file.ensures ∙ not-false _ c.if3.false)
-
 pub returns-in-At : goal.returns-in-At
 returns-in-At c =
     let read = c in
