@@ -1,7 +1,8 @@
+-- `replay_versions::main` is safe and ends. The invariant: no more answers differ than were read. The measure is what is left of those that
+-- may be read. Assumes nothing.
 use Rattle.std.proofs.Common.{◌-◌, ◌≤◌}
 use Rattle.replay_versions.proofs.main.Given as goal
 
--- No more answers differ than were replayed.
 abbrev pub invariant-loop-ran : goal.invariant-loop-ran
 invariant-loop-ran l = l.different ≤ l.ran
 
