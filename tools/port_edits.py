@@ -89,6 +89,9 @@ def main(args):
     for path in edits:
         if names and path.split("/")[1] not in names:
             continue
+        if subprocess.run(["git", "cat-file", "-e", f"{args[0]}:{path}"], capture_output=True).returncode:
+            print(f"== {path}\n  new since then")
+            continue
         a, b = changed(path, before), changed(path, here)
         if "--differ" in args and words(a) == words(b):
             continue

@@ -6,9 +6,10 @@ ghost use Rattle.std.specs.Prelude.{◌<◌};
 
 use endian::kinds::Order;
 use export::kinds::{class_of, order_of};
-use libc::{STDIN_FILENO, STDOUT_FILENO};
 use note::reader::{Note, NoteReader, NoteStep, ReaderFor, reader_for};
 use property_reader::{Property, PropertyNumber, PropertyReader, PropertyStep, property_number};
+use std::io;
+use std::io::{BufReader, Read};
 use word::{u8_at, u32_at};
 
 const RECORD: usize = 128;
@@ -181,22 +182,18 @@ fn agrees(record: &[u8]) -> bool {
     properties_agree(record, reader, bytes)
 }
 
-fn report(ran: u64, different: u64) {
-    io::print_decimal(STDOUT_FILENO, ran);
-    io::write_all(
-        STDOUT_FILENO,
-        b" recorded walks over notes and properties, ",
-    );
-    io::print_decimal(STDOUT_FILENO, different);
-    io::write_all(STDOUT_FILENO, b" different\n");
+fn report(rt: &impl Print, ran: u64, different: u64) -> io::Result<()> {
+    println!(rt; "{ran} recorded walks over notes and properties, {different} different")
 }
 
-fn main() {
-    let mut record = [0u8; RECORD];
+fn main(rt: HostRuntime) -> io::Result<()> {
+    let mut input = BufReader::new(rt.alloc(), rt.reader())?;
+    let mut record = Vec::with_capacity(rt.alloc(), RECORD)?;
     let mut ran: u64 = 0;
     let mut different: u64 = 0;
     while ran < MOST {
-        if io::read_full(STDIN_FILENO, &mut record) != RECORD {
+        record.clear();
+        if input.by_ref().take(RECORD as u64).read_to_end(&mut record)? != RECORD {
             break;
         }
         ran += 1;
@@ -204,5 +201,5 @@ fn main() {
             different += 1;
         }
     }
-    report(ran, different);
+    report(&rt, ran, different)
 }

@@ -4,7 +4,6 @@
 
 use endian::kinds::{Class, Order};
 use export::kinds::{class_of, order_of};
-use libc::{STDIN_FILENO, STDOUT_FILENO};
 use note::reader::Align;
 use segment::table::{SegmentAt, segment_at};
 use segment_data::part::{SegmentData, SegmentDataRange, segment_data, segment_data_range};
@@ -12,6 +11,8 @@ use segment_dynamic::dynamic::{DynamicEntryAt, SegmentDynamic, dynamic_entry, se
 use segment_entry::Segment;
 use segment_parts::interpreter::{SegmentInterpreter, segment_interpreter};
 use segment_parts::notes::{SegmentNotes, segment_notes};
+use std::io;
+use std::io::{BufReader, Read};
 use word::{u8_at, u32_at, u64_at};
 
 const RECORD: usize = 320;
@@ -235,19 +236,18 @@ fn agrees(record: &[u8]) -> bool {
     }
 }
 
-fn report(ran: u64, different: u64) {
-    io::print_decimal(STDOUT_FILENO, ran);
-    io::write_all(STDOUT_FILENO, b" recorded answers about segments, ");
-    io::print_decimal(STDOUT_FILENO, different);
-    io::write_all(STDOUT_FILENO, b" different\n");
+fn report(rt: &impl Print, ran: u64, different: u64) -> io::Result<()> {
+    println!(rt; "{ran} recorded answers about segments, {different} different")
 }
 
-fn main() {
-    let mut record = [0u8; RECORD];
+fn main(rt: HostRuntime) -> io::Result<()> {
+    let mut input = BufReader::new(rt.alloc(), rt.reader())?;
+    let mut record = Vec::with_capacity(rt.alloc(), RECORD)?;
     let mut ran: u64 = 0;
     let mut different: u64 = 0;
     while ran < MOST {
-        if io::read_full(STDIN_FILENO, &mut record) != RECORD {
+        record.clear();
+        if input.by_ref().take(RECORD as u64).read_to_end(&mut record)? != RECORD {
             break;
         }
         ran += 1;
@@ -255,5 +255,5 @@ fn main() {
             different += 1;
         }
     }
-    report(ran, different);
+    report(&rt, ran, different)
 }

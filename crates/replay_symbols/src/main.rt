@@ -4,7 +4,8 @@
 
 use endian::kinds::Order;
 use export::kinds::{class_of, order_of};
-use libc::{STDIN_FILENO, STDOUT_FILENO};
+use std::io;
+use std::io::{BufReader, Read};
 use strings::StringAt;
 use symbol::table::{SymbolAt, SymbolIndex};
 use word::{u8_at, u16_at, u32_at, u64_at};
@@ -82,19 +83,18 @@ fn agrees(record: &[u8]) -> bool {
     same_name(named, record)
 }
 
-fn report(ran: u64, different: u64) {
-    io::print_decimal(STDOUT_FILENO, ran);
-    io::write_all(STDOUT_FILENO, b" recorded answers about symbols, ");
-    io::print_decimal(STDOUT_FILENO, different);
-    io::write_all(STDOUT_FILENO, b" different\n");
+fn report(rt: &impl Print, ran: u64, different: u64) -> io::Result<()> {
+    println!(rt; "{ran} recorded answers about symbols, {different} different")
 }
 
-fn main() {
-    let mut record = [0u8; RECORD];
+fn main(rt: HostRuntime) -> io::Result<()> {
+    let mut input = BufReader::new(rt.alloc(), rt.reader())?;
+    let mut record = Vec::with_capacity(rt.alloc(), RECORD)?;
     let mut ran: u64 = 0;
     let mut different: u64 = 0;
     while ran < MOST {
-        if io::read_full(STDIN_FILENO, &mut record) != RECORD {
+        record.clear();
+        if input.by_ref().take(RECORD as u64).read_to_end(&mut record)? != RECORD {
             break;
         }
         ran += 1;
@@ -102,5 +102,5 @@ fn main() {
             different += 1;
         }
     }
-    report(ran, different);
+    report(&rt, ran, different)
 }

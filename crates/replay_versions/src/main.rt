@@ -4,7 +4,8 @@
 
 use endian::kinds::Order;
 use export::kinds::order_of;
-use libc::{STDIN_FILENO, STDOUT_FILENO};
+use std::io;
+use std::io::{BufReader, Read};
 use symbol::table::SymbolIndex;
 use version::table::{VersymAt, version_of};
 use version_match::{Need, matches};
@@ -151,19 +152,18 @@ fn agrees(record: &[u8]) -> bool {
     same_match(record, order, versyms, &store, strings)
 }
 
-fn report(ran: u64, different: u64) {
-    io::print_decimal(STDOUT_FILENO, ran);
-    io::write_all(STDOUT_FILENO, b" recorded answers about versions, ");
-    io::print_decimal(STDOUT_FILENO, different);
-    io::write_all(STDOUT_FILENO, b" different\n");
+fn report(rt: &impl Print, ran: u64, different: u64) -> io::Result<()> {
+    println!(rt; "{ran} recorded answers about versions, {different} different")
 }
 
-fn main() {
-    let mut record = [0u8; RECORD];
+fn main(rt: HostRuntime) -> io::Result<()> {
+    let mut input = BufReader::new(rt.alloc(), rt.reader())?;
+    let mut record = Vec::with_capacity(rt.alloc(), RECORD)?;
     let mut ran: u64 = 0;
     let mut different: u64 = 0;
     while ran < MOST {
-        if io::read_full(STDIN_FILENO, &mut record) != RECORD {
+        record.clear();
+        if input.by_ref().take(RECORD as u64).read_to_end(&mut record)? != RECORD {
             break;
         }
         ran += 1;
@@ -171,5 +171,5 @@ fn main() {
             different += 1;
         }
     }
-    report(ran, different);
+    report(&rt, ran, different)
 }

@@ -9,6 +9,7 @@ use gnu::find::find;
 use lookup::Answer;
 use marks::{MarksAt, marks_of};
 use name_hash::{NameHash, gnu_hash, sysv_hash};
+use std::io;
 use version_match::Need;
 
 fn found(
@@ -37,19 +38,19 @@ fn found(
 }
 
 // Symbol, version and probes; a refusal is that of the marks.
-fn put_answer(change: Change, store: &[u32], answer: Answer) {
+fn put_answer(rt: &impl Print, change: Change, store: &[u32], answer: Answer) -> io::Result<()> {
     match answer {
         Answer::Found(symbol, probes) => {
-            put_number(symbol.0 as u64, 6);
-            put(b"  ");
-            put_version(change, store, symbol);
-            put_number(probes as u64, 6);
+            put_number(rt, symbol.0 as u64, 6)?;
+            put(rt, b"  ")?;
+            put_version(rt, change, store, symbol)?;
+            put_number(rt, probes as u64, 6)
         }
         Answer::Missing(probes) => {
-            put(b"  none  missing  ");
-            put_number(probes as u64, 6);
+            put(rt, b"  none  missing  ")?;
+            put_number(rt, probes as u64, 6)
         }
-        Answer::Refused(_) => {}
+        Answer::Refused(_) => Ok(()),
     }
 }
 
@@ -67,33 +68,51 @@ fn marks_at(change: Change, name: &[u8], need: Need, answer: Answer) -> MarksAt 
 }
 
 // The rest of the line of an import with this need, and what stands below it.
-fn put_line(change: Change, store: &[u32], name: &[u8], need: Need, version: &[u8]) {
+fn put_line(
+    rt: &impl Print,
+    change: Change,
+    store: &[u32],
+    name: &[u8],
+    need: Need,
+    version: &[u8],
+) -> io::Result<()> {
     match gnu_hash(name) {
         NameHash::Hash(hash) => {
             let answer = found(change, store, name, hash, need, version);
-            put_answer(change, store, answer);
+            put_answer(rt, change, store, answer)?;
             match marks_at(change, name, need, answer) {
-                MarksAt::At(marks) => put_marks(change, store, name, marks),
-                MarksAt::Refused(refusal) => put_refusal(refusal.0),
+                MarksAt::At(marks) => put_marks(rt, change, store, name, marks),
+                MarksAt::Refused(refusal) => put_refusal(rt, refusal.0),
             }
         }
-        NameHash::Refused(refusal) => put_refusal(refusal.0),
+        NameHash::Refused(refusal) => put_refusal(rt, refusal.0),
     }
 }
 
 // An import of a routine that asks for a version.
-pub(crate) fn import(change: Change, store: &[u32], name: &[u8], version: &[u8]) {
-    put_left(name, 12);
-    put_left(version, 10);
+pub(crate) fn import(
+    rt: &impl Print,
+    change: Change,
+    store: &[u32],
+    name: &[u8],
+    version: &[u8],
+) -> io::Result<()> {
+    put_left(rt, name, 12)?;
+    put_left(rt, version, 10)?;
     match sysv_hash(version) {
-        NameHash::Hash(hash) => put_line(change, store, name, Need::Hash(hash), version),
-        NameHash::Refused(refusal) => put_refusal(refusal.0),
+        NameHash::Hash(hash) => put_line(rt, change, store, name, Need::Hash(hash), version),
+        NameHash::Refused(refusal) => put_refusal(rt, refusal.0),
     }
 }
 
 // An import of a routine that asks for no version.
-pub(crate) fn import_any(change: Change, store: &[u32], name: &[u8]) {
-    put_left(name, 12);
-    put_left(b"none", 10);
-    put_line(change, store, name, Need::Any, b"");
+pub(crate) fn import_any(
+    rt: &impl Print,
+    change: Change,
+    store: &[u32],
+    name: &[u8],
+) -> io::Result<()> {
+    put_left(rt, name, 12)?;
+    put_left(rt, b"none", 10)?;
+    put_line(rt, change, store, name, Need::Any, b"")
 }

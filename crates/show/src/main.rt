@@ -14,11 +14,12 @@ use gnu_check::check::check;
 use gnu_rules::Checked;
 use imports::{import, import_any};
 use library::Change;
+use std::io;
 use text::{put, put_number, put_refusal};
 use version_parse::parse::{Parsed, parse};
 
 // The checker's verdict: whether the table can be relied on.
-fn put_verdict(table: &[u8]) -> bool {
+fn put_verdict(rt: &impl Print, table: &[u8]) -> io::Result<bool> {
     match check(
         Class::Elf64,
         Order::Little,
@@ -27,86 +28,91 @@ fn put_verdict(table: &[u8]) -> bool {
         &sample::strings(),
     ) {
         Checked::Accepted(longest) => {
-            put(b"accepted; its longest chain has ");
-            put_number(longest as u64, 0);
-            put(b" symbols.\n");
-            true
+            put(rt, b"accepted; its longest chain has ")?;
+            put_number(rt, longest as u64, 0)?;
+            put(rt, b" symbols.\n")?;
+            Ok(true)
         }
         Checked::Broken(rule, place) => {
-            put(b"NOT ACCEPTED; rule G");
-            put_number(rule as u64, 0);
-            put(b" is broken, at place ");
-            put_number(place as u64, 0);
-            put(b". No import is to be signed by it.\n");
-            false
+            put(rt, b"NOT ACCEPTED; rule G")?;
+            put_number(rt, rule as u64, 0)?;
+            put(rt, b" is broken, at place ")?;
+            put_number(rt, place as u64, 0)?;
+            put(rt, b". No import is to be signed by it.\n")?;
+            Ok(false)
         }
         Checked::Refused(refusal) => {
-            put_refusal(refusal.0);
-            false
+            put_refusal(rt, refusal.0)?;
+            Ok(false)
         }
     }
 }
 
-fn put_head() {
+fn put_head(rt: &impl Print) -> io::Result<()> {
     put(
+        rt,
         b"\nEach line is an import: the routine and the version that it asks for, and what the rule of document 01\n",
-    );
+    )?;
     put(
+        rt,
         b"takes for it: the number of the symbol, the symbol's version, and the probes (how many were tested).\n",
-    );
+    )?;
     put(
+        rt,
         b"NOT TO BE SIGNED: the station may bind something else, for the reasons that stand below the line.\n",
-    );
+    )?;
     put(
+        rt,
         b"A line that is not marked speaks of this library alone; docs/STATION.md says what else to look at.\n",
-    );
-    put(b"\nroutine     asks for  symbol  version  probes\n");
+    )?;
+    put(rt, b"\nroutine     asks for  symbol  version  probes\n")
 }
 
 // The imports of import_lot: the old version, the new one, none, and one that does not exist.
-fn put_lots(store: &[u32]) {
-    import(Change::None, store, b"import_lot", b"LOT_1.0");
-    import(Change::None, store, b"import_lot", b"LOT_2.0");
-    import_any(Change::None, store, b"import_lot");
-    import(Change::None, store, b"import_lot", b"LOT_3.0");
+fn put_lots(rt: &impl Print, store: &[u32]) -> io::Result<()> {
+    import(rt, Change::None, store, b"import_lot", b"LOT_1.0")?;
+    import(rt, Change::None, store, b"import_lot", b"LOT_2.0")?;
+    import_any(rt, Change::None, store, b"import_lot")?;
+    import(rt, Change::None, store, b"import_lot", b"LOT_3.0")
 }
 
 // Imports of other routines; void_lot does not exist.
-fn put_others(store: &[u32]) {
-    import(Change::None, store, b"seal_lot", b"LOT_1.0");
-    import_any(Change::None, store, b"seal_lot");
-    import(Change::None, store, b"sum_lot", b"LOT_1.0");
-    import(Change::None, store, b"void_lot", b"LOT_1.0");
+fn put_others(rt: &impl Print, store: &[u32]) -> io::Result<()> {
+    import(rt, Change::None, store, b"seal_lot", b"LOT_1.0")?;
+    import_any(rt, Change::None, store, b"seal_lot")?;
+    import(rt, Change::None, store, b"sum_lot", b"LOT_1.0")?;
+    import(rt, Change::None, store, b"void_lot", b"LOT_1.0")
 }
 
 // The import of LOT_2.0, in the library with a change.
-fn put_changed(change: Change, store: &[u32], title: &[u8]) {
-    put(b"\nThe same library, ");
-    put(title);
-    put(b" by hand:\n");
-    import(change, store, b"import_lot", b"LOT_2.0");
+fn put_changed(rt: &impl Print, change: Change, store: &[u32], title: &[u8]) -> io::Result<()> {
+    put(rt, b"\nThe same library, ")?;
+    put(rt, title)?;
+    put(rt, b" by hand:\n")?;
+    import(rt, change, store, b"import_lot", b"LOT_2.0")
 }
 
-fn put_changes(store: &[u32]) {
-    put_changed(Change::Undefined, store, b"symbol 4 made undefined");
-    put_changed(Change::Local, store, b"symbol 4 made local");
-    put_changed(Change::Hidden, store, b"symbol 4 made hidden");
+fn put_changes(rt: &impl Print, store: &[u32]) -> io::Result<()> {
+    put_changed(rt, Change::Undefined, store, b"symbol 4 made undefined")?;
+    put_changed(rt, Change::Local, store, b"symbol 4 made local")?;
+    put_changed(rt, Change::Hidden, store, b"symbol 4 made hidden")?;
     put_changed(
+        rt,
         Change::Unversioned,
         store,
         b"the version of symbol 5 taken away",
-    );
+    )
 }
 
-fn put_imports(store: &[u32]) {
-    put_head();
-    put_lots(store);
-    put_others(store);
-    put_changes(store);
+fn put_imports(rt: &impl Print, store: &[u32]) -> io::Result<()> {
+    put_head(rt)?;
+    put_lots(rt, store)?;
+    put_others(rt, store)?;
+    put_changes(rt, store)
 }
 
 // The imports, with the versions that the library defines.
-fn put_library() {
+fn put_library(rt: &impl Print) -> io::Result<()> {
     let mut store = [0u32; 24];
     match parse(
         Order::Little,
@@ -115,17 +121,21 @@ fn put_library() {
         &sample::strings(),
         &mut store,
     ) {
-        Parsed::Highest(_) => put_imports(&store),
-        Parsed::Refused(refusal) => put_refusal(refusal.0),
+        Parsed::Highest(_) => put_imports(rt, &store),
+        Parsed::Refused(refusal) => put_refusal(rt, refusal.0),
     }
 }
 
-fn main() {
-    put(b"The library is fixtures/lot/liblot.so.\n\n");
-    put(b"The checker on its table of names (GNU hash table): ");
-    if put_verdict(&sample::table()) {
-        put_library();
+fn main(rt: HostRuntime) -> io::Result<()> {
+    put(&rt, b"The library is fixtures/lot/liblot.so.\n\n")?;
+    put(&rt, b"The checker on its table of names (GNU hash table): ")?;
+    if put_verdict(&rt, &sample::table())? {
+        put_library(&rt)?;
     }
-    put(b"\nThe checker on the same table, with one value changed by hand: ");
-    put_verdict(&library::damaged());
+    put(
+        &rt,
+        b"\nThe checker on the same table, with one value changed by hand: ",
+    )?;
+    put_verdict(&rt, &library::damaged())?;
+    Ok(())
 }

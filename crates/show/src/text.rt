@@ -1,37 +1,36 @@
 // Words and numbers on the standard output.
-use libc::STDOUT_FILENO;
+use std::io;
 
-pub(crate) fn put(text: &[u8]) {
-    io::write_all(STDOUT_FILENO, text);
+pub(crate) fn put(rt: &impl Print, text: &[u8]) -> io::Result<()> {
+    rt.write_all(text)
 }
 
-fn put_front(text: &[u8], length: usize) {
+fn put_front(rt: &impl Print, text: &[u8], length: usize) -> io::Result<()> {
     if length <= text.len() {
-        put(&text[0..length]);
+        put(rt, &text[0..length])?;
     }
+    Ok(())
 }
 
 // Spaces up to a width, of at most 20.
-fn pad(width: usize, used: usize) {
+fn pad(rt: &impl Print, width: usize, used: usize) -> io::Result<()> {
     if used < width {
-        put_front(b"                    ", width - used);
+        put_front(rt, b"                    ", width - used)?;
     }
+    Ok(())
 }
 
-pub(crate) fn put_left(text: &[u8], width: usize) {
-    put(text);
-    pad(width, text.len());
+pub(crate) fn put_left(rt: &impl Print, text: &[u8], width: usize) -> io::Result<()> {
+    put(rt, text)?;
+    pad(rt, width, text.len())
 }
 
-pub(crate) fn put_number(n: u64, width: usize) {
-    let mut digits = [0u8; 20];
-    let k = io::decimal(n, &mut digits);
-    pad(width, k);
-    put(&digits[..k]);
+pub(crate) fn put_number(rt: &impl Print, n: u64, width: usize) -> io::Result<()> {
+    print!(rt; "{n:>width$}")
 }
 
-pub(crate) fn put_refusal(number: u32) {
-    put(b"refused, number ");
-    put_number(number as u64, 0);
-    put(b"\n");
+pub(crate) fn put_refusal(rt: &impl Print, number: u32) -> io::Result<()> {
+    put(rt, b"refused, number ")?;
+    put_number(rt, number as u64, 0)?;
+    put(rt, b"\n")
 }
