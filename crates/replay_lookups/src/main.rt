@@ -7,7 +7,7 @@ use export::kinds::{class_of, order_of};
 use gnu_length::TableLength;
 use lookup::Answer;
 use std::io;
-use std::io::{BufReader, Read};
+use std::io::{ErrorKind, Read};
 use sysv_header::length::ChainCount;
 use version_match::Need;
 use version_parse::parse::{Parsed, parse};
@@ -213,14 +213,16 @@ fn report(rt: &impl Print, ran: u64, different: u64) -> io::Result<()> {
 }
 
 fn main(rt: HostRuntime) -> io::Result<()> {
-    let mut input = BufReader::new(rt.alloc(), rt.reader())?;
-    let mut record = Vec::with_capacity(rt.alloc(), RECORD)?;
+    let mut input = rt.reader();
+    let mut record = [0u8; RECORD];
     let mut ran: u64 = 0;
     let mut different: u64 = 0;
     while ran < MOST {
-        record.clear();
-        if input.by_ref().take(RECORD as u64).read_to_end(&mut record)? != RECORD {
-            break;
+        if let Err(error) = input.read_exact(&mut record) {
+            if error.kind() == ErrorKind::UnexpectedEof {
+                break;
+            }
+            return Err(error);
         }
         ran += 1;
         if !agrees(&record) {

@@ -5,7 +5,7 @@
 use endian::kinds::Order;
 use export::kinds::order_of;
 use std::io;
-use std::io::{BufReader, Read};
+use std::io::{ErrorKind, Read};
 use symbol::table::SymbolIndex;
 use version::table::{VersymAt, version_of};
 use version_match::{Need, matches};
@@ -157,14 +157,16 @@ fn report(rt: &impl Print, ran: u64, different: u64) -> io::Result<()> {
 }
 
 fn main(rt: HostRuntime) -> io::Result<()> {
-    let mut input = BufReader::new(rt.alloc(), rt.reader())?;
-    let mut record = Vec::with_capacity(rt.alloc(), RECORD)?;
+    let mut input = rt.reader();
+    let mut record = [0u8; RECORD];
     let mut ran: u64 = 0;
     let mut different: u64 = 0;
     while ran < MOST {
-        record.clear();
-        if input.by_ref().take(RECORD as u64).read_to_end(&mut record)? != RECORD {
-            break;
+        if let Err(error) = input.read_exact(&mut record) {
+            if error.kind() == ErrorKind::UnexpectedEof {
+                break;
+            }
+            return Err(error);
         }
         ran += 1;
         if !agrees(&record) {

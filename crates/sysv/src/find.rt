@@ -73,7 +73,7 @@ fn walk(
 {
     let mut i: u32 = start;
     let mut probes: usize = 0;
-    loop {
+    'chain: loop {
         if i == 0 {
             break Answer::Missing(probes);
         }

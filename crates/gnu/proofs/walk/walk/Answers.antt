@@ -1,7 +1,7 @@
 -- `gnu::walk::walk` meets its contract. Invariant: the pairs from i on, after so many probes, give the answer.
 -- Measure: the pairs left. Assumes nothing.
 use borrow.Author.Rules.{rules}
-use Prim.Native.Nat.{ℕ, ◌-◌, ◌/◌}
+use Prim.Native.Nat.{ℕ, ◌-◌, ◌/◌, ◌%◌}
 use mathlib.Core.Path.{◌≡◌, sym, ◌∙◌}
 use mathlib.Core.Bool.{false, ◌&&◌, and-false}
 use native.Mathlib.Omega.{arith}
@@ -43,7 +43,7 @@ loop-i-preserved c =
     } in
     let asked : Asked = record { name = a.name.now; need = a.need; need_name = a.need_name.now } in
     let going : pair_ends a.order a.table.now a.values_at a.base i ≡ false =
-    rw (← c.word_of-value.ensures) (ne_eqb _ 1 c.if-value-eq1.false) in
+    rw (← c.word_of-value.ensures) (ne_eqb (c.word_of-value.result % 2) 1 (search rules)) in
     let missed : pair_matches a.class a.order parts asked a.hash a.values_at a.base i ≡ false =
     no_match a.class a.order parts asked a.hash a.values_at a.base i c.word_of-value.result c.word_of-value.ensures
     (elim c.else-value-hash.branch [

@@ -7,8 +7,8 @@ use borrow.Author.Rules.{rules}
 use Rattle.sysv.proofs.Walking.{walking_start, walking_zero, walking_spent, walking_match, walking_past, walking_on}
 use Rattle.sysv.proofs.find.walk.Goals as goal
 
-pub loop-i-init : goal.loop-i-init
-loop-i-init c = (search rules, search rules, walking_start _ _ _ _)
+pub chain-init : goal.chain-init
+chain-init c = (search rules, search rules, walking_start _ _ _ _)
 
 pub overflow_add-probes : goal.overflow_add-probes
 overflow_add-probes c = omega arith
@@ -19,41 +19,41 @@ overflow_mul-number c = omega arith
 pub overflow_add-chains_at : goal.overflow_add-chains_at
 overflow_add-chains_at c = omega arith
 
-pub loop-i-smaller : goal.loop-i-smaller
-loop-i-smaller c = omega arith
+pub chain-smaller : goal.chain-smaller
+chain-smaller c = omega arith
 
-pub loop-i-preserved : goal.loop-i-preserved
-loop-i-preserved c =
+pub chain-preserved : goal.chain-preserved
+chain-preserved c =
     let tested = c in
     let nonzero = tested in
-    let at = nonzero.loop-i in (
+    let at = nonzero.chain in (
       search rules,
       omega arith,
-      rw c.u32_at-i.ensures (walking_on _ _ _ _ at.i at.probes at.invariant.2 (omega arith) nonzero.if-i-eq0.false
+      rw c.u32_at-i.ensures (walking_on _ _ _ _ at.i at.probes at.invariant.2 (omega arith) (search rules)
           (sym tested.is_wanted.ensures ∙ c.if-is_wanted.false) c.if-chains-number.false),
     )
 
 pub returns-then-i-eq0 : goal.returns-then-i-eq0
 returns-then-i-eq0 c =
-    let at = c.loop-i in
-    walking_zero _ _ _ _ at.i at.probes at.invariant.2 c.if-i-eq0.true
+    let at = c.chain in
+    walking_zero _ _ _ _ at.i at.probes at.invariant.2 (search rules)
 
 pub returns-then-probes-chains : goal.returns-then-probes-chains
 returns-then-probes-chains c =
-    let at = c.loop-i in
+    let at = c.chain in
     walking_spent _ _ _ _ at.i at.probes at.invariant.2 c.if-probes-chains.true
 
 pub returns-then-is_wanted : goal.returns-then-is_wanted
 returns-then-is_wanted c =
     let nonzero = c in
-    let at = nonzero.loop-i in
-    walking_match _ _ _ _ at.i at.probes at.invariant.2 (omega arith) nonzero.if-i-eq0.false
+    let at = nonzero.chain in
+    walking_match _ _ _ _ at.i at.probes at.invariant.2 (omega arith) (search rules)
     (sym c.is_wanted.ensures ∙ c.if-is_wanted.true)
 
 pub returns-then-chains-number : goal.returns-then-chains-number
 returns-then-chains-number c =
     let tested = c in
     let nonzero = tested in
-    let at = nonzero.loop-i in
-    walking_past _ _ _ _ at.i at.probes at.invariant.2 (omega arith) nonzero.if-i-eq0.false
+    let at = nonzero.chain in
+    walking_past _ _ _ _ at.i at.probes at.invariant.2 (omega arith) (search rules)
     (sym tested.is_wanted.ensures ∙ c.if-is_wanted.false) c.if-chains-number.true

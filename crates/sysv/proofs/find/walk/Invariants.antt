@@ -6,14 +6,14 @@ use Rattle.lookup.specs.Wanted.{wanted_in}
 use Rattle.sysv.proofs.Walking.{Walking}
 use Rattle.sysv.proofs.find.walk.Given as goal
 
-abbrev pub invariant-loop-i : goal.invariant-loop-i
-invariant-loop-i l =
+abbrev pub invariant-chain : goal.invariant-chain
+invariant-chain l =
     (l.i < 2 ^ 32) × (l.probes ≤ l.chains)
     × Walking
     (wanted_in l.class l.order l.symbols l.strings l.versyms l.store l.version_strings
     (record { name = l.name; need = l.need; need_name = l.need_name }))
     l.chains (λ j. word_at l.order 4 l.table (l.chains_at + j * 4)) l.start l.i l.probes
 
-abbrev pub decreases-loop-i : goal.decreases-loop-i
-decreases-loop-i l =
+abbrev pub decreases-chain : goal.decreases-chain
+decreases-chain l =
     l.chains - l.probes
