@@ -1,11 +1,15 @@
 #!/usr/bin/env python3
 """Brings this repository's own definitions and lemmas to today's spelling: words in snake case.
 
-usage: tools/port_names.py [ROOT]
+usage: tools/port_names.py [ROOT]          respells crates/ below ROOT
+       tools/port_names.py ROOT --table    prints the names, old and new
+       tools/port_names.py ROOT --force    respells also where two names fall together
 
-Run once, on the tree that the kit's port.py has turned. `symbolName` becomes `symbol_name`; a dash in a lemma's
-name stays where it joins a definition to a name of std, as in `times-append`, and is `_` elsewhere. Functions of src/, exported C names,
-strings, inputs and outputs keep their names. It stops where two names would fall together in one file.
+Run once, on the tree that the kit's port.py has turned. `symbolName` becomes `symbol_name`. A dash in a lemma's name
+stays where it joins a definition to one of the words of STD, as in `times-append`, and where the lemma has a level before its
+colon, which this script does not read; elsewhere it is `_`. A lemma that would get the name of a definition ends in
+`_lem`. Functions of src/, exported C names, strings, inputs and outputs keep their names. It stops where two names
+would fall together in one .antt file, imports' paths and fields left out.
 """
 import os
 import re
