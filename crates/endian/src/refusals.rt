@@ -7,7 +7,7 @@ ghost use Rattle.endian.specs.Refusals.{limit};
 pub const LIMIT: usize = 1073741824;
 
 // A refusal is its number, and nothing else.
-#[derive(Clone, Copy)]
+#[derive(Clone, Copy, Debug, PartialEq, Eq)]
 pub struct Refusal(pub u32);
 
 pub const TOO_LONG: Refusal = Refusal(1);

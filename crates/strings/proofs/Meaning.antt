@@ -13,7 +13,8 @@ use lib.ListN.{length, take, drop}
 use borrow.Author.Tests.{eq-eqb, eqb-true, lt-ltb, le-ltb}
 pub use Rattle.endian.proofs.Falsity.{false_true}
 use Rattle.endian.specs.declared.refusals.Refusal.{Refusal}
-use Rattle.strings.specs.declared.StringAt.TheVariants.{At, Refused}
+use Rattle.std.specs.Prelude.{Ok, Err}
+use Rattle.strings.specs.declared.Place.{Place}
 use Rattle.endian.specs.First.{first, is_zero, readable, same}
 use Rattle.endian.specs.Refusals.{limit, no_string}
 use Rattle.name_match.specs.Reads.{text, reads}
@@ -34,16 +35,16 @@ same_true (b ∷ s) (c ∷ t) e = by (same_true s t) (eqb b c) refl e
     by rest false f g = false_true g
 
 module _ (strings : List ℕ) (offset : ℕ) (name : List ℕ) where
-  module _ (start len : ℕ) (read : string_at strings offset ≡ At start len) where
-    pub equals_of : take len (drop start strings) ≡ name → string_equals strings offset name ≡ true
+  module _ (place : Place) (read : string_at strings offset ≡ Ok place) where
+    pub equals_of : take place.len (drop place.start strings) ≡ name → string_equals strings offset name ≡ true
     unfolding string_equals
     equals_of equal = ap (is_name strings name) read ∙ rw equal (same_refl name)
 
-    pub equals_name : string_equals strings offset name ≡ true → take len (drop start strings) ≡ name
+    pub equals_name : string_equals strings offset name ≡ true → take place.len (drop place.start strings) ≡ name
     unfolding string_equals
-    equals_name e = same_true (take len (drop start strings)) name (sym (ap (is_name strings name) read) ∙ e)
+    equals_name e = same_true (take place.len (drop place.start strings)) name (sym (ap (is_name strings name) read) ∙ e)
 
-  pub equals_refused : (r : Refusal) → string_at strings offset ≡ Refused r → string_equals strings offset name ≡ false
+  pub equals_refused : (r : Refusal) → string_at strings offset ≡ Err r → string_equals strings offset name ≡ false
   unfolding string_equals
   equals_refused r refused = ap (is_name strings name) refused
 
@@ -57,7 +58,7 @@ module _ (s : List ℕ) (offset : ℕ) (name : List ℕ) where
   equals_reads fits = rw (le-ltb limit (length s) fits) (by (readable (drop offset s)))
     where
       by : (t : Bool)
-          → is_name s name (cond t (At offset (first is_zero (drop offset s))) (Refused no_string))
+          → is_name s name (cond t (Ok (record { start = offset; len = first is_zero (drop offset s) })) (Err no_string))
           ≡ t && same (take (first is_zero (drop offset s)) (drop offset s)) name
       by true = refl
       by false = refl

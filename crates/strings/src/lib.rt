@@ -9,30 +9,30 @@ use endian::refusals::{LIMIT, NO_STRING, Refusal, TOO_LONG};
 use name_match::reads_name;
 use zero_search::first_zero;
 
-// A part of the lent strings, without its zero.
-#[derive(Clone, Copy)]
-pub enum StringAt {
-    At { start: usize, len: usize },
-    Refused(Refusal),
+// A part of lent bytes: so many from a place on.
+#[derive(Clone, Copy, Debug, PartialEq, Eq)]
+pub struct Place {
+    pub start: usize,
+    pub len: usize,
 }
 
-// The string at an offset. Refused in this order: strings that are too long; an offset at or past
+// The string at an offset, without its zero. Refused in this order: strings that are too long; an offset at or past
 // the end, or no zero from there on.
-pub fn string_at(strings: &[u8], offset: u32) -> StringAt
+pub fn string_at(strings: &[u8], offset: u32) -> Result<Place, Refusal>
     ensures { result ≡ string_at strings.now offset }
 {
     if LIMIT < strings.len() {
-        return StringAt::Refused(TOO_LONG);
+        return Err(TOO_LONG);
     }
     let start = offset as usize;
     let end = first_zero(strings, start);
     if end < strings.len() {
-        return StringAt::At {
-            start: start,
+        return Ok(Place {
+            start,
             len: end - start,
-        };
+        });
     }
-    StringAt::Refused(NO_STRING)
+    Err(NO_STRING)
 }
 
 // Whether `string_at` reads a string at the offset and it is the name, byte for byte. Compares while

@@ -10,19 +10,20 @@ use borrow.Author.Tests.{lt-ltb, le-ltb}
 use Rattle.endian.specs.declared.kinds.Class.{Class}
 use Rattle.endian.specs.declared.kinds.Order.{Order}
 use Rattle.endian.specs.Refusals.{limit, too_long}
-use Rattle.strings.specs.declared.StringAt.TheVariants.{Refused as String-as-Refused}
-use Rattle.symbol.specs.declared.table.SymbolAt.{SymbolAt}
-use Rattle.symbol.specs.declared.table.SymbolAt.TheVariants.{Refused}
+use Rattle.std.specs.Prelude.{Result, Err}
+use Rattle.endian.specs.declared.refusals.Refusal.{Refusal}
+use Rattle.strings.specs.declared.Place.{Place}
+use Rattle.symbol_entry.specs.declared.Symbol.{Symbol}
 use Rattle.symbol.specs.declared.table.SymbolIndex.{SymbolIndex}
 use Rattle.symbol.specs.Table.{symbol_at, symbol_name, name_in}
 
 module _ (class : Class) (order : Order) (symbols strings : List ℕ) (index : SymbolIndex) where
-  pub symbol_name_long : limit < length strings → symbol_name class order symbols strings index ≡ String-as-Refused too_long
+  pub symbol_name_long : limit < length strings → symbol_name class order symbols strings index ≡ Err too_long
   symbol_name_long long = rw (lt-ltb limit (length strings) long) (by (ltb limit (length symbols)))
     where
       by : (t : Bool)
-          → cond (cond t true true) (String-as-Refused too_long) (name_in strings (symbol_at class order symbols index))
-          ≡ String-as-Refused too_long
+          → cond (cond t true true) (Err too_long) (name_in strings (symbol_at class order symbols index))
+          ≡ Err too_long
       by true = refl
       by false = refl
 
@@ -31,8 +32,8 @@ module _ (class : Class) (order : Order) (symbols strings : List ℕ) (index : S
   unfolding symbol_at
   symbol_name_fits fits = rw (le-ltb limit (length strings) fits) (by (ltb limit (length symbols)) _)
     where
-      by : (t : Bool) (rest : SymbolAt)
-          → cond (cond t true false) (String-as-Refused too_long) (name_in strings (cond t (Refused too_long) rest))
-          ≡ name_in strings (cond t (Refused too_long) rest)
+      by : (t : Bool) (rest : Result Symbol Refusal)
+          → cond (cond t true false) (Err too_long) (name_in strings (cond t (Err too_long) rest))
+          ≡ name_in strings (cond t (Err too_long) rest)
       by true rest = refl
       by false rest = refl

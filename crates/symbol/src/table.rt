@@ -4,25 +4,13 @@ ghost use Rattle.symbol.specs.Table.{symbol_size, symbol_of, symbol_count, symbo
 
 use endian::kinds::{Class, Order};
 use endian::refusals::{LIMIT, NO_SYMBOL, Refusal, TOO_LONG};
-use strings::StringAt;
+use strings::Place;
 use symbol_entry::Symbol;
 use word::{u8_at, u16_at, u32_at, u64_at};
 
 // A symbol's number, which is never a version's.
-#[derive(Clone, Copy)]
+#[derive(Clone, Copy, Debug, PartialEq, Eq)]
 pub struct SymbolIndex(pub u32);
-
-#[derive(Clone, Copy)]
-pub enum SymbolCount {
-    Symbols(u32),
-    Refused(Refusal),
-}
-
-#[derive(Clone, Copy)]
-pub enum SymbolAt {
-    At(Symbol),
-    Refused(Refusal),
-}
 
 fn symbol_size(class: Class) -> usize
     ensures { result ≡ symbol_size class }
@@ -34,15 +22,15 @@ fn symbol_size(class: Class) -> usize
 }
 
 // How many whole records there are; a shorter tail is ignored. Refused: symbols that are too long.
-pub fn symbol_count(class: Class, symbols: &[u8]) -> SymbolCount
+pub fn symbol_count(class: Class, symbols: &[u8]) -> Result<u32, Refusal>
     ensures { result ≡ symbol_count class symbols.now }
 {
     if LIMIT < symbols.len() {
-        return SymbolCount::Refused(TOO_LONG);
+        return Err(TOO_LONG);
     }
     match class {
-        Class::Elf32 => SymbolCount::Symbols((symbols.len() / 16) as u32),
-        Class::Elf64 => SymbolCount::Symbols((symbols.len() / 24) as u32),
+        Class::Elf32 => Ok((symbols.len() / 16) as u32),
+        Class::Elf64 => Ok((symbols.len() / 24) as u32),
     }
 }
 
@@ -73,21 +61,26 @@ fn symbol_of(class: Class, order: Order, symbols: &[u8], base: usize) -> Symbol
 
 // The symbol of a number. Refused in this order: symbols that are too long; number 0, or one with
 // no whole record.
-pub fn symbol_at(class: Class, order: Order, symbols: &[u8], index: SymbolIndex) -> SymbolAt
+pub fn symbol_at(
+    class: Class,
+    order: Order,
+    symbols: &[u8],
+    index: SymbolIndex,
+) -> Result<Symbol, Refusal>
     ensures { result ≡ symbol_at class order symbols.now index }
 {
     if LIMIT < symbols.len() {
-        return SymbolAt::Refused(TOO_LONG);
+        return Err(TOO_LONG);
     }
     if index.0 == 0 {
-        return SymbolAt::Refused(NO_SYMBOL);
+        return Err(NO_SYMBOL);
     }
     let number = index.0 as usize;
     let record = symbol_size(class);
     if symbols.len() < (number + 1) * record {
-        return SymbolAt::Refused(NO_SYMBOL);
+        return Err(NO_SYMBOL);
     }
-    SymbolAt::At(symbol_of(class, order, symbols, number * record))
+    Ok(symbol_of(class, order, symbols, number * record))
 }
 
 // The name of a symbol. Refused in this order: symbols or strings that are too long; as `symbol_at`;
@@ -98,14 +91,12 @@ pub fn symbol_name(
     symbols: &[u8],
     strings: &[u8],
     index: SymbolIndex,
-) -> StringAt
+) -> Result<Place, Refusal>
     ensures { result ≡ symbol_name class order symbols.now strings.now index }
 {
     if LIMIT < strings.len() {
-        return StringAt::Refused(TOO_LONG);
+        return Err(TOO_LONG);
     }
-    match symbol_at(class, order, symbols, index) {
-        SymbolAt::At(symbol) => strings::string_at(strings, symbol.name),
-        SymbolAt::Refused(refusal) => StringAt::Refused(refusal),
-    }
+    let symbol = symbol_at(class, order, symbols, index)?;
+    strings::string_at(strings, symbol.name)
 }

@@ -2,7 +2,7 @@
 use mathlib.Core.Path.{ap}
 use native.Mathlib.Omega.{arith}
 use borrow.Author.Tests.{lt-ltb, le-ltb, eq-eqb, ne_eqb, le-leb, lt-leb}
-use Rattle.symbol.specs.declared.table.SymbolAt.TheVariants.{At}
+use Rattle.std.specs.Prelude.{Ok}
 use Rattle.symbol.specs.Table.{symbol_at}
 use Rattle.symbol.proofs.Size.{end_fits}
 use Rattle.symbol.proofs.table.symbol_at.Goals as goal
@@ -33,4 +33,4 @@ returns c =
     let whole = rw c.symbol_size-record.ensures at c.if-symbols-number.false in
     let tested = c in
     let read = rw c.symbol_size-record.ensures at c.symbol_of.ensures in
-    simp (le-ltb _ _ tested.if-symbols-gt-LIMIT.false, ne_eqb _ _ tested.if-index-eq0.false, le-leb _ _ whole) (ap At read)
+    simp (le-ltb _ _ tested.if-symbols-gt-LIMIT.false, ne_eqb _ _ tested.if-index-eq0.false, le-leb _ _ whole) (ap Ok read)
