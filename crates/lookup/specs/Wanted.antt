@@ -7,12 +7,12 @@
 --     wanted       whether a symbol has the name and the version that are asked for; `wanted_in` of the parts that this looks at
 --     walk         the first match on a list of numbers, and how many of them were tested
 -- Assumes nothing.
-use Rattle.std.specs.Prelude.{ℕ, Bool, false, ◌&&◌, List, [], ◌∷◌, length, take, drop}
+use Rattle.std.specs.Prelude.{ℕ, Bool, false, ◌&&◌, List, [], ◌∷◌, length, take, drop, Result, Ok, Err}
 use Rattle.std.proofs.Math.Option.{Option, some, none}
 use Rattle.endian.specs.declared.kinds.Class.{Class}
 use Rattle.endian.specs.declared.kinds.Order.{Order}
-use Rattle.strings.specs.declared.StringAt.{StringAt}
-use Rattle.strings.specs.declared.StringAt.TheVariants.{At, Refused as String-as-Refused}
+use Rattle.endian.specs.declared.refusals.Refusal.{Refusal}
+use Rattle.strings.specs.declared.Place.{Place}
 use Rattle.endian.specs.First.{same}
 use Rattle.symbol.specs.Table.{symbol_name, symbol_index}
 use Rattle.version_match.specs.declared.Need.{Need}
@@ -42,9 +42,9 @@ all_parts p asked =
     p.table ∷ p.symbols ∷ p.strings ∷ p.versyms ∷ p.version_strings ∷ asked.name ∷ asked.need_name ∷ []
 
 -- the bytes of a string that was looked for
-abbrev pub bytes_of : List ℕ → StringAt → Option (List ℕ)
-bytes_of strings (At start len) = some (take len (drop start strings))
-bytes_of strings (String-as-Refused r) = none
+abbrev pub bytes_of : List ℕ → Result Place Refusal → Option (List ℕ)
+bytes_of strings (Ok place) = some (take place.len (drop place.start strings))
+bytes_of strings (Err r) = none
 
 unfoldable pub name_of : Class → Order → (symbols strings : List ℕ) → ℕ → Option (List ℕ)
 name_of class order symbols strings i = bytes_of strings (symbol_name class order symbols strings (symbol_index i))

@@ -8,7 +8,7 @@ ghost use Rattle.lookup.specs.Wanted.{name_of, is_named, wanted_in};
 use endian::kinds::{Class, Order};
 use endian::refusals::Refusal;
 use strings::string_equals;
-use symbol::table::{SymbolAt, SymbolIndex, symbol_at};
+use symbol::table::{SymbolIndex, symbol_at};
 use version_match::{Need, matches};
 
 // A symbol and the probes that were made, the probes alone where there is none, or a refusal.
@@ -32,8 +32,8 @@ pub fn has_name(
         ≡ is_named name.now (name_of class order symbols.now strings.now symbol.0) }
 {
     match symbol_at(class, order, symbols, symbol) {
-        SymbolAt::At(entry) => string_equals(strings, entry.name, name),
-        SymbolAt::Refused(_) => false,
+        Ok(entry) => string_equals(strings, entry.name, name),
+        Err(_) => false,
     }
 }
 

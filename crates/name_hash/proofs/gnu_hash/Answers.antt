@@ -2,7 +2,7 @@
 -- of the name. Assumes nothing.
 use mathlib.Core.Path.{ap}
 use borrow.Author.Tests.{lt-ltb, le-ltb}
-use Rattle.name_hash.specs.declared.NameHash.TheVariants.{Hash}
+use Rattle.std.specs.Prelude.{Ok}
 use Rattle.name_hash.specs.Hash.{gnu_step, gnu_hash}
 use Rattle.name_hash.proofs.Fold.{folding_start, folding_next, folding_end}
 use Rattle.name_hash.proofs.gnu_hash.Goals as goal
@@ -22,4 +22,4 @@ pub returns : goal.returns
 unfolding gnu_hash
 returns c =
     let at-loop = c in
-    simp (le-ltb _ _ at-loop.if-name-gt-LIMIT.false) (ap Hash (folding_end gnu_step 5381 _ _ _ at-loop.loop-i.invariant c.loop-i-test.false))
+    simp (le-ltb _ _ at-loop.if-name-gt-LIMIT.false) (ap Ok (folding_end gnu_step 5381 _ _ _ at-loop.loop-i.invariant c.loop-i-test.false))
