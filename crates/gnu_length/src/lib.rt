@@ -30,11 +30,7 @@ fn number_after(symbol: u64) -> Option<u32>
     requires { symbol < 2 ^ 40 }
     ensures { result ≡ length_answer (number_after (some symbol)) }
 {
-    if symbol < 0xffff_ffff {
-        Some((symbol + 1) as u32)
-    } else {
-        None
-    }
+    u32::try_from(symbol + 1).ok()
 }
 
 // The number after the first symbol of `start` to `end - 1` whose value has low bit 1.
