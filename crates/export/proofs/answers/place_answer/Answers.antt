@@ -3,8 +3,8 @@ use mathlib.Core.Path.{sym, ap}
 use Rattle.export.specs.Answers.{place_of}
 use Rattle.export.proofs.answers.place_answer.Goals as goal
 
-pub returns-in-At : goal.returns-in-At
-returns-in-At c = ap place_of (sym c.in-At.is)
+pub returns-in-Ok : goal.returns-in-Ok
+returns-in-Ok c = ap place_of (sym c.in-Ok.is)
 
-pub returns-in-Refused : goal.returns-in-Refused
-returns-in-Refused c = ap place_of (sym c.in-Refused.is)
+pub returns-in-Err : goal.returns-in-Err
+returns-in-Err c = ap place_of (sym c.in-Err.is)
