@@ -1,5 +1,6 @@
 pub mod Bytes
 pub mod First
 pub mod InOrder
+pub mod Kinds
 pub mod Refusals
 pub mod Word

@@ -3,12 +3,23 @@ ghost use Rattle.std.specs.Prelude.{◌≡◌};
 ghost use Rattle.endian.specs.InOrder.{refusals};
 ghost use Rattle.endian.specs.Refusals.{limit};
 
+use std::error::Error;
+use std::fmt;
+
 // The most bytes that a lent part may have.
 pub const LIMIT: usize = 1073741824;
 
 // A refusal is its number, and nothing else.
 #[derive(Clone, Copy, Debug, PartialEq, Eq)]
 pub struct Refusal(pub u32);
+
+impl fmt::Display for Refusal {
+    fn fmt<W: fmt::Write>(&self, f: &mut fmt::Formatter<W>) -> fmt::Result {
+        write!(f, "refused, number {}", self.0)
+    }
+}
+
+impl Error for Refusal {}
 
 pub const TOO_LONG: Refusal = Refusal(1);
 
