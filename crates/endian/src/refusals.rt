@@ -1,7 +1,7 @@
 // The size limit, and the refusals by their numbers: document 01's, and our own.
-ghost use Rattle.std.specs.Prelude.{◌≡◌};
+ghost use Rattle.std.specs.Prelude.{◌≡◌, map};
 ghost use Rattle.endian.specs.InOrder.{refusals};
-ghost use Rattle.endian.specs.Refusals.{limit};
+ghost use Rattle.endian.specs.Refusals.{limit, any_long, now_of};
 
 use std::error::Error;
 use std::fmt;
@@ -149,4 +149,11 @@ fn in_order() -> [Refusal; 38]
         NO_SYMBOL,
         UNKNOWN_KIND,
     ]
+}
+
+// Whether one of several parts is too long.
+pub fn any_long(parts: &[&[u8]]) -> bool
+    ensures { result ≡ any_long (map now_of parts.now) }
+{
+    parts.iter().any(|part| LIMIT < part.len())
 }
