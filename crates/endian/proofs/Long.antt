@@ -1,7 +1,8 @@
 -- Whether one of several lent parts is too long, as a test of each of them. Assumes nothing.
 use Rattle.std.proofs.Common.{◌≡◌, ℕ, Bool, true, false, cond, ◌||◌, List, [], ◌∷◌, map, length, nat_lt, Bor, refl, ap, ◌∙◌}
 use Rattle.std.specs.List.{list_any}
-use Rattle.endian.specs.Refusals.{limit, any_long, now_of}
+use Rattle.endian.specs.Lent.{now_of}
+use Rattle.endian.specs.Refusals.{limit, any_long}
 
 pub any_long_lem : (parts : List (Bor (List ℕ)))
     → list_any (λ p. nat_lt limit (length p.now)) parts ≡ any_long (map now_of parts)

@@ -2,5 +2,6 @@ pub mod Bytes
 pub mod First
 pub mod InOrder
 pub mod Kinds
+pub mod Lent
 pub mod Refusals
 pub mod Word

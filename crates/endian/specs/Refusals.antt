@@ -6,7 +6,6 @@
 -- Assumes nothing.
 use Rattle.std.specs.Prelude.{ℕ, Bool, true, false, cond, List, [], ◌∷◌, ltb, length}
 use Rattle.std.proofs.Math.Option.{Option, some, none}
-use Rattle.std.specs.Borrow.{Bor}
 use Rattle.endian.specs.declared.refusals.Refusal.{Refusal}
 
 abbrev pub limit : ℕ
@@ -15,10 +14,6 @@ limit = 1073741824
 abbrev pub any_long : List (List ℕ) → Bool
 any_long [] = false
 any_long (part ∷ parts) = cond (ltb limit (length part)) true (any_long parts)
-
--- the bytes of a lent part
-abbrev pub now_of : Bor (List ℕ) → List ℕ
-now_of part = part.now
 
 abbrev pub refusal : ℕ → Refusal
 refusal n = record { 0 = n }

@@ -1,7 +1,8 @@
 // The size limit, and the refusals by their numbers: document 01's, and our own.
 ghost use Rattle.std.specs.Prelude.{◌≡◌, map};
 ghost use Rattle.endian.specs.InOrder.{refusals};
-ghost use Rattle.endian.specs.Refusals.{limit, any_long, now_of};
+ghost use Rattle.endian.specs.Lent.{now_of};
+ghost use Rattle.endian.specs.Refusals.{limit, any_long};
 
 use std::error::Error;
 use std::fmt;
