@@ -2,7 +2,7 @@
 // the version of a symbol.
 ghost use Rattle.std.specs.Prelude.{◌≡◌, ◌≤◌, length};
 ghost use Rattle.version.specs.Store.{store_needs};
-ghost use Rattle.version.specs.Table.{file_of, stored_at, inside, valid, entry_at, versym_at};
+ghost use Rattle.version.specs.Table.{stored_at, inside, valid, entry_at, versym_at};
 
 use super::index::VersionIndex;
 use super::store::{DEFINITION, ENTRY, NEED, Part, Version};
@@ -18,17 +18,7 @@ pub struct Versym {
     pub hidden: bool,
 }
 
-// A definition has no file, whatever the store holds.
-fn file_of(kind: u32, start: u32, len: u32) -> Part
-    ensures { result ≡ file_of kind start len }
-{
-    if kind == NEED {
-        Part { start, len }
-    } else {
-        Part { start: 0, len: 0 }
-    }
-}
-
+// The version that stands at an index. A definition has no file, whatever the store holds.
 #[tactic(auto, unfolding(crate::specs::Table::stored_at))]
 fn stored_at(store: &[u32], index: VersionIndex) -> Version
     requires { store_needs index ≤ length store.now }
@@ -42,7 +32,14 @@ fn stored_at(store: &[u32], index: VersionIndex) -> Version
             start: store[at + 2],
             len: store[at + 3],
         },
-        file: file_of(store[at], store[at + 4], store[at + 5]),
+        file: if store[at] == NEED {
+            Part {
+                start: store[at + 4],
+                len: store[at + 5],
+            }
+        } else {
+            Part { start: 0, len: 0 }
+        },
     }
 }
 

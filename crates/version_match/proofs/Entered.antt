@@ -7,7 +7,6 @@ use Prim.Native.Nat.{ℕ, ◌≤◌}
 use mathlib.Core.Path.{◌≡◌, refl, sym, ap, ◌∙◌}
 use mathlib.Core.Bool.{Bool, true, false, cond, ◌&&◌}
 use mathlib.Core.List.{List}
-use native.Mathlib.Omega.{arith}
 use lib.Dec.{ltb, eqb}
 use lib.ListN.{length}
 use borrow.Author.Tests.{ltb-false}
@@ -34,11 +33,11 @@ module _ (store strings : List ℕ) (index : VersionIndex) (v : Version) where
           → cond {A = Result (Option Version) Refusal} t (Err too_long) (cond u (Ok None) (cond w (Err bad_version_index)
           (cond z (Ok (Some (stored_at store index))) (Err bad_version_index)))) ≡ Ok (Some v)
           → (t ≡ false) × (z ≡ true) × (stored_at store index ≡ v)
-      by true u w z h = let n : ◌≡◌ {A = ℕ} 0 1 = cc in absurd (omega arith)
-      by false true w z h = let n : ◌≡◌ {A = ℕ} 0 1 = cc in absurd (omega arith)
-      by false false true z h = let n : ◌≡◌ {A = ℕ} 0 1 = cc in absurd (omega arith)
+      by true u w z h = cc
+      by false true w z h = cc
+      by false false true z h = cc
       by false false false true h = (refl, refl, cc)
-      by false false false false h = let n : ◌≡◌ {A = ℕ} 0 1 = cc in absurd (omega arith)
+      by false false false false h = cc
 
 pub and_both : (a b : Bool) → (a && b) ≡ true → (a ≡ true) × (b ≡ true)
 and_both true b h = (refl, h)

@@ -19,32 +19,15 @@ pub enum Need {
     Hash(u32),
 }
 
-// Whether the bytes at a place are the name's.
-fn equal_at(strings: &[u8], start: usize, name: &[u8]) -> bool
-    requires { start + length name.now ≤ length strings.now }
-    ensures { result
-        ≡ same (take (length name.now) (drop start strings.now)) name.now }
-{
-    for i in 0..name.len() {
-        if strings[start + i] != name[i] {
-            return false;
-        }
-    }
-    true
-}
-
 // Whether a version has the hash and the name.
+#[tactic(auto, using(crate::proofs::Compared::pointwise_part))]
 fn is_needed(strings: &[u8], version: Version, hash: u32, name: &[u8]) -> bool
     requires { inside strings.now version.name ≡ true }
     ensures { result ≡ is_needed strings.now version hash name.now }
 {
-    if version.hash != hash {
-        return false;
-    }
-    if version.name.len as usize != name.len() {
-        return false;
-    }
-    equal_at(strings, version.name.start as usize, name)
+    let start = version.name.start as usize;
+    let end = start + version.name.len as usize;
+    version.hash == hash && &strings[start..end] == name
 }
 
 // Whether the version of a symbol is the one that is needed: never where versyms or strings are too
