@@ -9,7 +9,7 @@ ghost use Rattle.readable_names.specs.Readable.{readable_in, readable_end, start
 use endian::kinds::{Class, Order};
 use endian::refusals::LIMIT;
 use strings::after_last_zero;
-use symbol::table::{SymbolAt, SymbolIndex, symbol_at};
+use symbol::table::{SymbolIndex, symbol_at};
 
 // The place before which a string that can be read starts: after the last zero, or 0 in strings
 // that are too long.
@@ -27,8 +27,8 @@ fn starts_below(class: Class, order: Order, symbols: &[u8], end: usize, symbol: 
     ensures { result ≡ starts_below end (symbol_at class order symbols.now symbol) }
 {
     match symbol_at(class, order, symbols, symbol) {
-        SymbolAt::At(entry) => (entry.name as usize) < end,
-        SymbolAt::Refused(_) => false,
+        Ok(entry) => (entry.name as usize) < end,
+        Err(_) => false,
     }
 }
 
@@ -48,12 +48,7 @@ pub fn lowest_unreadable(
         (first_from (λ i. not (readable_in class order symbols.now strings.now i)) low.0 count) }
 {
     let end = readable_end(strings);
-    let mut i = low.0;
-    while i < count {
-        if !starts_below(class, order, symbols, end, SymbolIndex(i)) {
-            return SymbolIndex(i);
-        }
-        i += 1;
-    }
-    SymbolIndex(count)
+    let first =
+        (low.0..count).find(|i| !starts_below(class, order, symbols, end, SymbolIndex(*i)));
+    SymbolIndex(first.unwrap_or(count))
 }
