@@ -3,7 +3,7 @@ ghost use Rattle.std.specs.Prelude.{◌≡◌};
 ghost use Rattle.version.specs.Index.{is_special};
 
 // A version's number, which is never a symbol's.
-#[derive(Clone, Copy)]
+#[derive(Clone, Copy, Debug, PartialEq, Eq)]
 pub struct VersionIndex(pub u16);
 
 impl VersionIndex {

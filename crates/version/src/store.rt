@@ -9,14 +9,14 @@ pub const DEFINITION: u32 = 1;
 pub const NEED: u32 = 2;
 
 // A part of the versions' strings.
-#[derive(Clone, Copy)]
+#[derive(Clone, Copy, Debug, PartialEq, Eq)]
 pub struct Part {
     pub start: u32,
     pub len: u32,
 }
 
 // A version. The file is that of a need, and start 0 and length 0 of a definition.
-#[derive(Clone, Copy)]
+#[derive(Clone, Copy, Debug, PartialEq, Eq)]
 pub struct Version {
     pub kind: u32,
     pub hash: u32,

@@ -2,7 +2,7 @@
 // the version of a symbol.
 ghost use Rattle.std.specs.Prelude.{◌≡◌, ◌≤◌, length};
 ghost use Rattle.version.specs.Store.{store_needs};
-ghost use Rattle.version.specs.Table.{file_of, stored_at, inside, valid, entry_at, versym_at};
+ghost use Rattle.version.specs.Table.{stored_at, inside, valid, entry_at, versym_at};
 
 use super::index::VersionIndex;
 use super::store::{DEFINITION, ENTRY, NEED, Part, Version};
@@ -11,40 +11,15 @@ use endian::refusals::{BAD_VERSION_INDEX, LIMIT, Refusal, TOO_LONG};
 use symbol::table::SymbolIndex;
 use word::u16_at;
 
-#[derive(Clone, Copy)]
-pub enum EntryAt {
-    Special,
-    At(Version),
-    Refused(Refusal),
-}
-
 // What a symbol's versym says: the low 15 bits, and the top bit.
-#[derive(Clone, Copy)]
+#[derive(Clone, Copy, Debug, PartialEq, Eq)]
 pub struct Versym {
     pub index: VersionIndex,
     pub hidden: bool,
 }
 
-#[derive(Clone, Copy)]
-pub enum VersymAt {
-    At(Versym),
-    Refused(Refusal),
-}
-
-// A definition has no file, whatever the store holds.
-fn file_of(kind: u32, start: u32, len: u32) -> Part
-    ensures { result ≡ file_of kind start len }
-{
-    if kind == NEED {
-        Part {
-            start: start,
-            len: len,
-        }
-    } else {
-        Part { start: 0, len: 0 }
-    }
-}
-
+// The version that stands at an index. A definition has no file, whatever the store holds.
+#[tactic(auto, unfolding(crate::specs::Table::stored_at))]
 fn stored_at(store: &[u32], index: VersionIndex) -> Version
     requires { store_needs index ≤ length store.now }
     ensures { result ≡ stored_at store.now index }
@@ -57,7 +32,14 @@ fn stored_at(store: &[u32], index: VersionIndex) -> Version
             start: store[at + 2],
             len: store[at + 3],
         },
-        file: file_of(store[at], store[at + 4], store[at + 5]),
+        file: if store[at] == NEED {
+            Part {
+                start: store[at + 4],
+                len: store[at + 5],
+            }
+        } else {
+            Part { start: 0, len: 0 }
+        },
     }
 }
 
@@ -67,61 +49,57 @@ fn is_inside(strings: &[u8], part: Part) -> bool
     part.start as usize + part.len as usize <= strings.len()
 }
 
+#[tactic(auto, unfolding(crate::specs::Table::valid))]
 fn is_valid(strings: &[u8], version: Version) -> bool
     ensures { result ≡ valid strings.now version }
 {
-    let name = version.name;
-    let file = version.file;
-    if version.kind == DEFINITION {
-        return is_inside(strings, name);
+    match version.kind {
+        DEFINITION => is_inside(strings, version.name),
+        NEED => is_inside(strings, version.name) && is_inside(strings, version.file),
+        _ => false,
     }
-    if version.kind == NEED {
-        if is_inside(strings, name) {
-            return is_inside(strings, file);
-        }
-        return false;
-    }
-    false
 }
 
 // The version behind an index. The store may hold anything. Refused first: strings that are too long.
-// Then 0 and 1 are special. Then refused: an index past the whole entries, or an entry of another
+// Then 0 and 1 are special, and there is none. Then refused: an index past the whole entries, or an entry of another
 // kind, or one whose name or (of a need) file lies outside the strings.
-pub fn entry(store: &[u32], strings: &[u8], index: VersionIndex) -> EntryAt
+#[tactic(auto, unfolding(crate::specs::Table::entry_at))]
+pub fn entry(store: &[u32], strings: &[u8], index: VersionIndex) -> Result<Option<Version>, Refusal>
     ensures { result ≡ entry_at store.now strings.now index }
 {
     if LIMIT < strings.len() {
-        return EntryAt::Refused(TOO_LONG);
+        return Err(TOO_LONG);
     }
     if index.is_special() {
-        return EntryAt::Special;
+        return Ok(None);
     }
     if store.len() < (index.0 as usize + 1) * ENTRY {
-        return EntryAt::Refused(BAD_VERSION_INDEX);
+        return Err(BAD_VERSION_INDEX);
     }
     let version = stored_at(store, index);
     if is_valid(strings, version) {
-        return EntryAt::At(version);
+        return Ok(Some(version));
     }
-    EntryAt::Refused(BAD_VERSION_INDEX)
+    Err(BAD_VERSION_INDEX)
 }
 
 // The version of a symbol: its versym, or 1 where there is none. Refused: versyms that are too long.
-pub fn version_of(order: Order, versyms: &[u8], symbol: SymbolIndex) -> VersymAt
+#[tactic(auto, unfolding(crate::specs::Table::versym_at))]
+pub fn version_of(order: Order, versyms: &[u8], symbol: SymbolIndex) -> Result<Versym, Refusal>
     ensures { result ≡ versym_at order versyms.now symbol }
 {
     if LIMIT < versyms.len() {
-        return VersymAt::Refused(TOO_LONG);
+        return Err(TOO_LONG);
     }
     let number = symbol.0 as usize;
     if versyms.len() < (number + 1) * 2 {
-        return VersymAt::At(Versym {
+        return Ok(Versym {
             index: VersionIndex(1),
             hidden: false,
         });
     }
     let versym = u16_at(order, versyms, number * 2);
-    VersymAt::At(Versym {
+    Ok(Versym {
         index: VersionIndex(versym % 0x8000),
         hidden: 0x8000 <= versym,
     })

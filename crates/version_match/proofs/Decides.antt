@@ -13,6 +13,8 @@ use lib.Dec.{eqb}
 use lib.ListN.{length}
 use borrow.Author.Tests.{eq-eqb, eqb-true}
 use Rattle.endian.specs.declared.kinds.Order.{Order}
+use Rattle.std.specs.Prelude.{Result, Ok, Err, Option, Some, None}
+use Rattle.endian.specs.declared.refusals.Refusal.{Refusal}
 use Rattle.endian.specs.Refusals.{limit}
 use Rattle.endian.specs.First.{same}
 use Rattle.strings.proofs.Meaning.{false_true, same_refl, same_true}
@@ -20,9 +22,7 @@ use Rattle.symbol.specs.declared.table.SymbolIndex.{SymbolIndex}
 use Rattle.version.specs.Table.{entry_at, versym_at}
 use Rattle.version_match.specs.Match.{satisfied, match_of, matching, version_name}
 use Rattle.version.specs.declared.store.Version.{Version}
-use Rattle.version.specs.declared.table.EntryAt.{EntryAt}
 use Rattle.version.specs.declared.table.Versym.{Versym}
-use Rattle.version.specs.declared.table.VersymAt.{VersymAt}
 use Rattle.version_match.specs.declared.Need.{Need}
 use Rattle.version_match.proofs.Compared.{part_short}
 use Rattle.version_match.proofs.Entered.{entry_valid, and_both}
@@ -32,8 +32,8 @@ pub record Bound (order : Order) (versyms store strings : List ℕ) (symbol : Sy
     (name : List ℕ) : Type 0 where
   pub versym : Versym
   pub version : Version
-  pub symbols : versym_at order versyms symbol ≡ VersymAt.At versym
-  pub entry : entry_at store strings versym.index ≡ EntryAt.At version
+  pub symbols : versym_at order versyms symbol ≡ Ok versym
+  pub entry : entry_at store strings versym.index ≡ Ok (Some version)
   pub hashed : version.hash ≡ hash
   pub named : version_name strings version ≡ name
 
@@ -44,13 +44,13 @@ module _ (order : Order) (versyms store strings : List ℕ) (symbol : SymbolInde
     unfolding matching
     match_need h = by (versym_at order versyms symbol) refl h
       where
-        inner : (m : Versym) → versym_at order versyms symbol ≡ VersymAt.At m
-            → (e : EntryAt) → entry_at store strings m.index ≡ e
+        inner : (m : Versym) → versym_at order versyms symbol ≡ Ok m
+            → (e : Result (Option Version) Refusal) → entry_at store strings m.index ≡ e
             → satisfied strings m.hidden (Need.Hash hash) name e ≡ true
             → Bound order versyms store strings symbol hash name
-        inner m v (EntryAt.Refused r) e h = false_true h
-        inner m v EntryAt.Special e h = false_true h
-        inner m v (EntryAt.At version) e h =
+        inner m v (Err r) e h = false_true h
+        inner m v (Ok None) e h = false_true h
+        inner m v (Ok (Some version)) e h =
             let k = and_both (eqb version.hash hash) (same (version_name strings version) name) h in
             record {
               versym = m;
@@ -61,10 +61,10 @@ module _ (order : Order) (versyms store strings : List ℕ) (symbol : SymbolInde
               named = same_true (version_name strings version) name k.1;
             }
 
-        by : (v : VersymAt) → versym_at order versyms symbol ≡ v → match_of store strings (Need.Hash hash) name v ≡ true
+        by : (v : Result Versym Refusal) → versym_at order versyms symbol ≡ v → match_of store strings (Need.Hash hash) name v ≡ true
             → Bound order versyms store strings symbol hash name
-        by (VersymAt.Refused r) v h = false_true h
-        by (VersymAt.At m) v h = inner m v (entry_at store strings m.index) refl h
+        by (Err r) v h = false_true h
+        by (Ok m) v h = inner m v (entry_at store strings m.index) refl h
 
     pub match_of_lem : Bound order versyms store strings symbol hash name
         → matching order versyms store strings symbol (Need.Hash hash) name ≡ true
@@ -94,7 +94,7 @@ module _ (order : Order) (versyms store strings : List ℕ) (symbol : SymbolInde
       let b = match_need hash name h in
       let b' = match_need hash' name' h' in
       let m : b.versym ≡ b'.versym = cc (sym b.symbols ∙ b'.symbols) in
-      let e : EntryAt.At b.version ≡ EntryAt.At b'.version =
+      let e : ◌≡◌ {A = Result (Option Version) Refusal} (Ok (Some b.version)) (Ok (Some b'.version)) =
       sym b.entry ∙ ap (λ (m : Versym). entry_at store strings m.index) m ∙ b'.entry in
       let v : b.version ≡ b'.version = cc in
       (sym b.hashed ∙ ap (λ (v : Version). v.hash) v ∙ b'.hashed, sym b.named ∙ ap (version_name strings) v ∙ b'.named)

@@ -7,10 +7,11 @@ use Prim.Native.Nat.{ℕ, ◌≤◌}
 use mathlib.Core.Path.{◌≡◌, refl, sym, ap, ◌∙◌}
 use mathlib.Core.Bool.{Bool, true, false, cond, ◌&&◌}
 use mathlib.Core.List.{List}
-use native.Mathlib.Omega.{arith}
 use lib.Dec.{ltb, eqb}
 use lib.ListN.{length}
 use borrow.Author.Tests.{ltb-false}
+use Rattle.std.specs.Prelude.{Result, Ok, Err, Option, Some, None}
+use Rattle.endian.specs.declared.refusals.Refusal.{Refusal}
 use Rattle.endian.specs.Refusals.{limit, too_long, bad_version_index}
 use Rattle.strings.proofs.Meaning.{false_true}
 use Rattle.version.specs.Index.{is_special}
@@ -18,10 +19,9 @@ use Rattle.version.specs.Store.{store_needs}
 use Rattle.version.specs.Table.{stored_at, inside, valid, entry_at}
 use Rattle.version.specs.declared.index.VersionIndex.{VersionIndex}
 use Rattle.version.specs.declared.store.Version.{Version}
-use Rattle.version.specs.declared.table.EntryAt.{EntryAt}
 
 module _ (store strings : List ℕ) (index : VersionIndex) (v : Version) where
-  pub entry_valid : entry_at store strings index ≡ EntryAt.At v
+  pub entry_valid : entry_at store strings index ≡ Ok (Some v)
       → (length strings ≤ limit) × (valid strings (stored_at store index) ≡ true) × (stored_at store index ≡ v)
   unfolding entry_at
   entry_valid read =
@@ -30,21 +30,21 @@ module _ (store strings : List ℕ) (index : VersionIndex) (v : Version) where
       (ltb-false limit (length strings) k.0, k.1, k.2)
     where
       by : (t u w z : Bool)
-          → cond t (EntryAt.Refused too_long) (cond u EntryAt.Special (cond w (EntryAt.Refused bad_version_index)
-          (cond z (EntryAt.At (stored_at store index)) (EntryAt.Refused bad_version_index)))) ≡ EntryAt.At v
+          → cond {A = Result (Option Version) Refusal} t (Err too_long) (cond u (Ok None) (cond w (Err bad_version_index)
+          (cond z (Ok (Some (stored_at store index))) (Err bad_version_index)))) ≡ Ok (Some v)
           → (t ≡ false) × (z ≡ true) × (stored_at store index ≡ v)
-      by true u w z h = let n : ◌≡◌ {A = ℕ} 0 1 = cc in absurd (omega arith)
-      by false true w z h = let n : ◌≡◌ {A = ℕ} 0 1 = cc in absurd (omega arith)
-      by false false true z h = let n : ◌≡◌ {A = ℕ} 0 1 = cc in absurd (omega arith)
+      by true u w z h = cc
+      by false true w z h = cc
+      by false false true z h = cc
       by false false false true h = (refl, refl, cc)
-      by false false false false h = let n : ◌≡◌ {A = ℕ} 0 1 = cc in absurd (omega arith)
+      by false false false false h = cc
 
 pub and_both : (a b : Bool) → (a && b) ≡ true → (a ≡ true) × (b ≡ true)
 and_both true b h = (refl, h)
 and_both false b h = false_true h
 
 pub name_inside : (store strings : List ℕ) (index : VersionIndex) (v : Version)
-    → entry_at store strings index ≡ EntryAt.At v
+    → entry_at store strings index ≡ Ok (Some v)
     → inside strings v.name ≡ true
 unfolding valid
 name_inside store strings index v read =

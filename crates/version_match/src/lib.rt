@@ -9,47 +9,31 @@ ghost use Rattle.version_match.specs.Match.{is_needed, matching};
 use endian::kinds::Order;
 use symbol::table::SymbolIndex;
 use version::store::Version;
-use version::table::{EntryAt, VersymAt, entry, version_of};
+use version::table::{entry, version_of};
 
 // Which version is needed: none in particular, which a special index meets and every version that is
 // not hidden, or the one of a hash and a name, which stands beside it.
-#[derive(Clone, Copy)]
+#[derive(Clone, Copy, Debug, PartialEq, Eq)]
 pub enum Need {
     Any,
     Hash(u32),
 }
 
-// Whether the bytes at a place are the name's.
-fn equal_at(strings: &[u8], start: usize, name: &[u8]) -> bool
-    requires { start + length name.now ≤ length strings.now }
-    ensures { result
-        ≡ same (take (length name.now) (drop start strings.now)) name.now }
-{
-    for i in 0..name.len() {
-        if strings[start + i] != name[i] {
-            return false;
-        }
-    }
-    true
-}
-
 // Whether a version has the hash and the name.
+#[tactic(auto, using(crate::proofs::Compared::pointwise_part))]
 fn is_needed(strings: &[u8], version: Version, hash: u32, name: &[u8]) -> bool
     requires { inside strings.now version.name ≡ true }
     ensures { result ≡ is_needed strings.now version hash name.now }
 {
-    if version.hash != hash {
-        return false;
-    }
-    if version.name.len as usize != name.len() {
-        return false;
-    }
-    equal_at(strings, version.name.start as usize, name)
+    let start = version.name.start as usize;
+    let end = start + version.name.len as usize;
+    version.hash == hash && &strings[start..end] == name
 }
 
 // Whether the version of a symbol is the one that is needed: never where versyms or strings are too
 // long, or the index behind it is invalid. The name is not held to the limit: beside `Any` it is not
 // looked at, and one that is too long is no version's.
+#[tactic(auto, using(crate::proofs::Entered::name_inside), unfolding(crate::specs::Match::matching))]
 pub fn matches(
     order: Order,
     versyms: &[u8],
@@ -63,20 +47,14 @@ pub fn matches(
         ≡ matching order versyms.now store.now strings.now symbol need
         name.now }
 {
-    let found = version_of(order, versyms, symbol);
-    let VersymAt::At(versym) = found else {
+    let Ok(versym) = version_of(order, versyms, symbol) else {
         return false;
     };
-    let index = versym.index;
-    match entry(store, strings, index) {
-        EntryAt::Refused(_) => false,
-        EntryAt::Special => match need {
-            Need::Any => true,
-            Need::Hash(_) => false,
-        },
-        EntryAt::At(version) => match need {
-            Need::Any => !versym.hidden,
-            Need::Hash(hash) => is_needed(strings, version, hash, name),
-        },
+    match (entry(store, strings, versym.index), need) {
+        (Err(_), _) => false,
+        (Ok(None), Need::Any) => true,
+        (Ok(None), Need::Hash(_)) => false,
+        (Ok(Some(_)), Need::Any) => !versym.hidden,
+        (Ok(Some(version)), Need::Hash(hash)) => is_needed(strings, version, hash, name),
     }
 }
