@@ -1,4 +1,4 @@
--- Class and byte order of ELF's own numbers, as e_ident[4] and e_ident[5] hold them (gABI, "ELF Identification").
+-- Need not be believed: class and byte order of ELF's own numbers, as e_ident[4] and e_ident[5] hold them. Inner contracts cite it.
 --     Classes, Orders    the answer is the class, or the order, of a number; any but 1 and 2 is refused
 -- Assumes nothing.
 use Rattle.std.specs.Prelude.{ℕ, ◌≡◌, cond, eqb, Result, Ok, Err}
