@@ -20,9 +20,9 @@ use Rattle.endian.specs.declared.kinds.Order.{Order}
 use Rattle.endian.specs.declared.refusals.Refusal.{Refusal}
 use Rattle.endian.specs.First.{first, is_zero, readable}
 use Rattle.endian.specs.Refusals.{limit, no_string}
-use Rattle.strings.specs.declared.StringAt.TheVariants.{At, Refused}
+use Rattle.std.specs.Prelude.{Result, Ok, Err}
+use Rattle.strings.specs.declared.Place.{Place}
 use Rattle.symbol_entry.specs.declared.Symbol.{Symbol}
-use Rattle.symbol.specs.declared.table.SymbolAt.TheVariants.{At as Symbol-as-At, Refused as Symbol-as-Refused}
 use Rattle.symbol.specs.Table.{symbol_at, symbol_index}
 use Rattle.name_hash.specs.Hash.{gnu_step, gnu_hash}
 use Rattle.lookup.specs.Wanted.{bytes_of}
@@ -38,7 +38,7 @@ hash_from_start s at short = rw (le-ltb limit (length s) short) (by (readable (d
   where
     by : (t : Bool)
         → cond t (foldl gnu_step 5381 (take (first is_zero (drop at s)) (drop at s))) 5381
-        ≡ foldl gnu_step 5381 (Option.get_or (bytes_of s (cond t (At at (first is_zero (drop at s))) (Refused no_string))) [])
+        ≡ foldl gnu_step 5381 (Option.get_or (bytes_of s (cond {A = Result Place Refusal} t (Ok (record { start = at; len = first is_zero (drop at s) })) (Err no_string))) [])
     by true = refl
     by false = refl
 
@@ -67,12 +67,12 @@ unfolding hash_at gnu_hash
 hash_at_long s at long = simp (lt-ltb limit (length s) long)
 
 module _ (class : Class) (order : Order) (symbols strings : List ℕ) (i : ℕ) where
-  pub hash_in_at : (entry : Symbol) → symbol_at class order symbols (symbol_index i) ≡ Symbol-as-At entry
+  pub hash_in_at : (entry : Symbol) → symbol_at class order symbols (symbol_index i) ≡ Ok entry
       → hash_in class order symbols strings i ≡ hash_at strings entry.name
   unfolding hash_in hash_at
   hash_in_at entry there = ap (λ o. gnu_hash (Option.get_or o [])) (name_at class order symbols strings i entry there)
 
-  pub hash_in_none : (r : Refusal) → symbol_at class order symbols (symbol_index i) ≡ Symbol-as-Refused r
+  pub hash_in_none : (r : Refusal) → symbol_at class order symbols (symbol_index i) ≡ Err r
       → hash_in class order symbols strings i ≡ 5381
   unfolding hash_in gnu_hash
   hash_in_none r none_there = ap (λ o. gnu_hash (Option.get_or o [])) (name_none class order symbols strings i r none_there)

@@ -5,7 +5,7 @@ ghost use Rattle.gnu_check_hashes.specs.Names.{hash_at, hash_in};
 use endian::kinds::{Class, Order};
 use endian::refusals::LIMIT;
 use name_hash::gnu_step;
-use symbol::table::{SymbolAt, SymbolIndex, symbol_at};
+use symbol::table::{SymbolIndex, symbol_at};
 
 // The hash of the string at an offset; of one that cannot be read, that of the empty name.
 fn hash_at(strings: &[u8], offset: u32) -> u32
@@ -14,15 +14,15 @@ fn hash_at(strings: &[u8], offset: u32) -> u32
     if LIMIT < strings.len() {
         return 5381;
     }
+    let Some(rest) = strings.get(offset as usize..) else {
+        return 5381;
+    };
     let mut h: u32 = 5381;
-    let mut i = offset as usize;
-    while i < strings.len() {
-        let b = strings[i];
-        if b == 0 {
+    for b in rest {
+        if *b == 0 {
             return h;
         }
-        h = gnu_step(h, b);
-        i += 1;
+        h = gnu_step(h, *b);
     }
     5381
 }
@@ -38,7 +38,7 @@ pub fn symbol_hash(
     ensures { result ≡ hash_in class order symbols.now strings.now symbol.0 }
 {
     match symbol_at(class, order, symbols, symbol) {
-        SymbolAt::At(entry) => hash_at(strings, entry.name),
-        SymbolAt::Refused(_) => 5381,
+        Ok(entry) => hash_at(strings, entry.name),
+        Err(_) => 5381,
     }
 }

@@ -5,34 +5,34 @@ use mathlib.Core.Path.{◌≡◌, sym}
 use mathlib.Core.List.{List}
 use borrow.Author.Tests.{lt-ltb, le-ltb}
 use lib.ListN.{length}
+use Rattle.std.specs.Prelude.{Ok, Err}
 use Rattle.endian.specs.declared.kinds.Class.{Class}
 use Rattle.endian.specs.declared.kinds.Order.{Order}
 use Rattle.endian.specs.Refusals.{limit, too_long, bad_gnu_header, bad_gnu_bloom, bad_gnu_buckets}
 use Rattle.endian.specs.Word.{word_at}
-use Rattle.gnu_table.specs.declared.header.HeaderAt.TheVariants.{At, Refused}
 use Rattle.gnu_table.specs.Header.{buckets_at, values_at, layout_of, gnu_header}
 
 module _ (class : Class) (order : Order) (table : List ℕ) where
-  pub header_long : limit < length table → gnu_header class order table ≡ Refused too_long
+  pub header_long : limit < length table → gnu_header class order table ≡ Err too_long
   unfolding gnu_header
   header_long long = rw (lt-ltb _ _ long)
 
   module _ (short : length table ≤ limit) where
-    pub header_short : length table < 16 → gnu_header class order table ≡ Refused bad_gnu_header
+    pub header_short : length table < 16 → gnu_header class order table ≡ Err bad_gnu_header
     unfolding gnu_header
     header_short less = rw (le-ltb _ _ short, lt-ltb _ _ less)
 
     module _ (whole : 16 ≤ length table) where
-      pub header_bloom : length table < buckets_at class order table → gnu_header class order table ≡ Refused bad_gnu_bloom
+      pub header_bloom : length table < buckets_at class order table → gnu_header class order table ≡ Err bad_gnu_bloom
       unfolding gnu_header
       header_bloom less = rw (le-ltb _ _ short, le-ltb _ _ whole, lt-ltb _ _ less)
 
       module _ (blooms : buckets_at class order table ≤ length table) where
-        pub header_buckets : length table < values_at class order table → gnu_header class order table ≡ Refused bad_gnu_buckets
+        pub header_buckets : length table < values_at class order table → gnu_header class order table ≡ Err bad_gnu_buckets
         unfolding gnu_header
         header_buckets less = rw (le-ltb _ _ short, le-ltb _ _ whole, le-ltb _ _ blooms, lt-ltb _ _ less)
 
-        header_at : values_at class order table ≤ length table → gnu_header class order table ≡ At (layout_of class order table)
+        header_at : values_at class order table ≤ length table → gnu_header class order table ≡ Ok (layout_of class order table)
         unfolding gnu_header
         header_at buckets = rw (le-ltb _ _ short, le-ltb _ _ whole, le-ltb _ _ blooms, le-ltb _ _ buckets)
 
@@ -42,7 +42,7 @@ module _ (class : Class) (order : Order) (table : List ℕ) where
               → bucket_count ≡ word_at order 4 table 0 → base ≡ word_at order 4 table 4
               → bloom_count ≡ word_at order 4 table 8 → shift ≡ word_at order 4 table 12
               → buckets-at ≡ buckets_at class order table → values-at ≡ values_at class order table
-              → At (record {
+              → Ok (record {
                 bucket_count = bucket_count;
                 symbol_base = base;
                 bloom_count = bloom_count;

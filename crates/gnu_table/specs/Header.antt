@@ -6,7 +6,7 @@
 --     gnu_fault                refusal 26, 27 or 28, where the header, the bloom words or the buckets are not whole
 --     gnu_header               of the bytes: part too long (1), the places (26 to 28), then the layout
 -- Assumes nothing.
-use Rattle.std.specs.Prelude.{ℕ, ◌+◌, ◌-◌, ◌*◌, ◌/◌, cond, List, ltb, length}
+use Rattle.std.specs.Prelude.{ℕ, ◌+◌, ◌-◌, ◌*◌, ◌/◌, cond, List, ltb, length, Result, Ok, Err}
 use Rattle.std.proofs.Math.Option.{Option, some, none}
 use Rattle.endian.specs.declared.kinds.Class.{Class}
 use Rattle.endian.specs.declared.kinds.Class.TheVariants.{Elf32, Elf64}
@@ -15,8 +15,6 @@ use Rattle.endian.specs.declared.refusals.Refusal.{Refusal}
 use Rattle.endian.specs.Refusals.{limit, too_long, unless_refused, bad_gnu_header, bad_gnu_bloom, bad_gnu_buckets}
 use Rattle.endian.specs.Word.{word_at}
 use Rattle.gnu_table.specs.declared.header.Layout.{Layout}
-use Rattle.gnu_table.specs.declared.header.HeaderAt.{HeaderAt}
-use Rattle.gnu_table.specs.declared.header.HeaderAt.TheVariants.{At, Refused}
 
 abbrev pub word_size : Class → ℕ
 word_size Elf32 = 4
@@ -48,5 +46,5 @@ module _ (class : Class) (order : Order) (table : List ℕ) where
       (cond (ltb (length table) buckets_at) (some bad_gnu_bloom)
       (cond (ltb (length table) values_at) (some bad_gnu_buckets) none))
 
-  unfoldable pub gnu_header : HeaderAt
-  gnu_header = cond (ltb limit (length table)) (Refused too_long) (unless_refused Refused gnu_fault (At layout_of))
+  unfoldable pub gnu_header : Result Layout Refusal
+  gnu_header = cond (ltb limit (length table)) (Err too_long) (unless_refused Err gnu_fault (Ok layout_of))

@@ -6,12 +6,12 @@
 --     bloom_first, bloom_second    the two tests of the bloom filter
 --     bloom_filter                 whether the bloom filter lets a hash pass
 -- Assumes nothing.
-use Rattle.std.specs.Prelude.{ℕ, ◌-◌, ◌/◌, ◌%◌, ◌^◌, Bool, cond, not, List, ltb, eqb}
+use Rattle.std.specs.Prelude.{ℕ, ◌-◌, ◌/◌, ◌%◌, ◌^◌, Bool, true, false, cond, not, List, ltb, eqb, Result, Ok, Err}
 use Rattle.std.proofs.Math.Option.{Option}
 use Rattle.std.specs.Int.Bits.{bit_and}
+use Rattle.endian.specs.declared.refusals.Refusal.{Refusal}
+use Rattle.endian.specs.Refusals.{bad_bloom_shift}
 use Rattle.lookup.specs.Pick.{from}
-use Rattle.gnu_table.specs.declared.filter.Bloom.{Bloom}
-use Rattle.gnu_table.specs.declared.filter.Bloom.TheVariants.{Passes, Stops, Refuses}
 
 pub record GnuTable : Type 0 where
   -- the header: bucket_count, symbol_base, bloom_count, bloom_shift
@@ -61,9 +61,9 @@ module _ (t : GnuTable) where
   bloom_second h = bit (bloom_word h) (h / 2 ^ t.shift % t.width)
 
 -- no bloom words, a bit unset, a shift above 31 where the second bit is reached (30), or both bits set
-unfoldable pub bloom_filter : GnuTable → ℕ → Bloom
+unfoldable pub bloom_filter : GnuTable → ℕ → Result Bool Refusal
 bloom_filter t h =
-    cond (eqb t.bloom_count 0) Stops
-    (cond (not (bloom_first t h)) Stops
-    (cond (ltb 31 t.shift) Refuses
-    (cond (not (bloom_second t h)) Stops Passes)))
+    cond (eqb t.bloom_count 0) (Ok false)
+    (cond (not (bloom_first t h)) (Ok false)
+    (cond (ltb 31 t.shift) (Err bad_bloom_shift)
+    (cond (not (bloom_second t h)) (Ok false) (Ok true))))

@@ -7,15 +7,8 @@ ghost use Rattle.gnu_table.specs.Places.{table_at, bloom_word_at};
 
 use super::header::{Layout, word_size};
 use endian::kinds::{Class, Order};
+use endian::refusals::{BAD_BLOOM_SHIFT, Refusal};
 use word::{u32_at, u64_at};
-
-// What it says of a hash: walk on, nothing is there, or a shift above 31 was reached.
-#[derive(Clone, Copy)]
-pub enum Bloom {
-    Passes,
-    Stops,
-    Refuses,
-}
 
 fn has_bit(word: u64, k: u32) -> bool
     requires { k < 64 }
@@ -44,25 +37,28 @@ fn bloom_word(class: Class, order: Order, table: &[u8], bloom_count: u32, hash: 
     word_at(class, order, table, 16 + place * size)
 }
 
-// What the bloom filter says of a hash.
-pub fn bloom_filter(class: Class, order: Order, table: &[u8], layout: Layout, hash: u32) -> Bloom
+// Whether the bloom filter lets a hash pass. Refused: a shift above 31, where the second bit is reached.
+pub fn bloom_filter(
+    class: Class,
+    order: Order,
+    table: &[u8],
+    layout: Layout,
+    hash: u32,
+) -> Result<bool, Refusal>
     ensures { result ≡ bloom_filter (table_at class order table.now layout 0) hash }
 {
     let bloom_count = layout.bloom_count;
     let shift = layout.bloom_shift;
     if bloom_count == 0 {
-        return Bloom::Stops;
+        return Ok(false);
     }
     let width = (word_size(class) * 8) as u32;
     let word = bloom_word(class, order, table, bloom_count, hash);
     if !has_bit(word, hash % width) {
-        return Bloom::Stops;
+        return Ok(false);
     }
     if 31 < shift {
-        return Bloom::Refuses;
+        return Err(BAD_BLOOM_SHIFT);
     }
-    if !has_bit(word, (hash >> shift) % width) {
-        return Bloom::Stops;
-    }
-    Bloom::Passes
+    Ok(has_bit(word, (hash >> shift) % width))
 }

@@ -8,7 +8,7 @@ use word::u32_at;
 
 // The header's four numbers; then the places of the buckets and of the values, and how many values
 // there are.
-#[derive(Clone, Copy)]
+#[derive(Clone, Copy, Debug, PartialEq, Eq)]
 pub struct Layout {
     pub bucket_count: u32,
     pub symbol_base: u32,
@@ -17,12 +17,6 @@ pub struct Layout {
     pub buckets_at: u32,
     pub values_at: u32,
     pub value_count: u32,
-}
-
-#[derive(Clone, Copy)]
-pub enum HeaderAt {
-    At(Layout),
-    Refused(Refusal),
 }
 
 // The bytes of a bloom word.
@@ -37,29 +31,29 @@ pub(crate) fn word_size(class: Class) -> usize
 
 // The header and the places. Refused in this order: a table that is too long; one whose header,
 // bloom words or buckets are not whole.
-pub fn header(class: Class, order: Order, table: &[u8]) -> HeaderAt
+pub fn header(class: Class, order: Order, table: &[u8]) -> Result<Layout, Refusal>
     ensures { result ≡ gnu_header class order table.now }
 {
     if LIMIT < table.len() {
-        return HeaderAt::Refused(TOO_LONG);
+        return Err(TOO_LONG);
     }
     if table.len() < 16 {
-        return HeaderAt::Refused(BAD_GNU_HEADER);
+        return Err(BAD_GNU_HEADER);
     }
     let bucket_count = u32_at(order, table, 0);
     let bloom_count = u32_at(order, table, 8);
     let buckets_at = 16 + bloom_count as usize * word_size(class);
     if table.len() < buckets_at {
-        return HeaderAt::Refused(BAD_GNU_BLOOM);
+        return Err(BAD_GNU_BLOOM);
     }
     let values_at = buckets_at + bucket_count as usize * 4;
     if table.len() < values_at {
-        return HeaderAt::Refused(BAD_GNU_BUCKETS);
+        return Err(BAD_GNU_BUCKETS);
     }
-    HeaderAt::At(Layout {
-        bucket_count: bucket_count,
+    Ok(Layout {
+        bucket_count,
         symbol_base: u32_at(order, table, 4),
-        bloom_count: bloom_count,
+        bloom_count,
         bloom_shift: u32_at(order, table, 12),
         buckets_at: buckets_at as u32,
         values_at: values_at as u32,

@@ -9,6 +9,7 @@ use mathlib.Core.Bool.{Bool, true}
 use mathlib.Core.List.{List}
 use mathlib.Core.Option.{Option, some, none}
 use lib.ListN.{length}
+use Rattle.std.specs.Prelude.{Some}
 use Rattle.symbol.specs.Table.{symbol_index}
 use Rattle.endian.specs.declared.kinds.Class.{Class}
 use Rattle.endian.specs.declared.kinds.Order.{Order}
@@ -17,9 +18,8 @@ use Rattle.symbol.specs.declared.table.SymbolIndex.{SymbolIndex}
 use Rattle.version_match.specs.declared.Need.{Need}
 use Rattle.version_match.specs.Match.{matching}
 use Rattle.version_match.proofs.Decides.{match_one}
-use Rattle.lookup.specs.declared.Answer.TheVariants.{Found}
 use Rattle.lookup.specs.Pick.{first_of, up_to}
-use Rattle.lookup.specs.Wanted.{Parts, Asked, name_of, is_named, wanted, wanted_in, answer_after, walk}
+use Rattle.lookup.specs.Wanted.{Parts, Asked, name_of, is_named, wanted, wanted_in, found, answer_after, walk}
 use Rattle.lookup.proofs.Picking.{and_left, and_right, first_of_passes}
 
 -- a name that is read and is the one asked for
@@ -62,16 +62,17 @@ module _ (class : Class) (order : Order) (p : Parts) (asked asked' : Asked) (has
         one.0,
       )
 
-found_one : (i j probes probes' : ℕ) → Found (symbol_index i) probes ≡ Found (symbol_index j) probes' → i ≡ j
+found_one : (i j probes probes' : ℕ) → found (symbol_index i) probes ≡ found (symbol_index j) probes' → i ≡ j
 found_one i j probes probes' e =
+    let symbols : Some (symbol_index i) ≡ Some (symbol_index j) = ap (λ l. l.symbol) e in
     let z : symbol_index i ≡ symbol_index j = cc in
     ap (λ (x : SymbolIndex). x.0) z
 
-pub walk_wanted : (match : ℕ → Bool) (xs : List ℕ) (i probes : ℕ) → walk match xs ≡ Found (symbol_index i) probes
+pub walk_wanted : (match : ℕ → Bool) (xs : List ℕ) (i probes : ℕ) → walk match xs ≡ found (symbol_index i) probes
     → match i ≡ true
 walk_wanted match xs i probes h = by (first_of match xs) refl h
   where
-    by : (o : Option ℕ) → first_of match xs ≡ o → answer_after o (length (up_to match xs)) ≡ Found (symbol_index i) probes
+    by : (o : Option ℕ) → first_of match xs ≡ o → answer_after o (length (up_to match xs)) ≡ found (symbol_index i) probes
         → match i ≡ true
-    by none e h = cc
+    by none e h = let symbols = ap (λ l. l.symbol) h in cc
     by (some j) e h = rw (← (found_one j i (length (up_to match xs)) probes h)) (first_of_passes match xs j e)

@@ -13,19 +13,17 @@ use Rattle.endian.specs.declared.kinds.Class.{Class}
 use Rattle.endian.specs.declared.kinds.Order.{Order}
 use Rattle.endian.specs.declared.refusals.Refusal.{Refusal}
 use Rattle.endian.specs.Refusals.{limit}
-use Rattle.strings.specs.declared.StringAt.{StringAt}
-use Rattle.strings.specs.declared.StringAt.TheVariants.{At, Refused as String-as-Refused}
+use Rattle.std.specs.Prelude.{Result, Ok, Err}
+use Rattle.strings.specs.declared.Place.{Place}
 use Rattle.strings.specs.Strings.{is_name, string_at, string_equals}
 use Rattle.symbol_entry.specs.declared.Symbol.{Symbol}
-use Rattle.symbol.specs.declared.table.SymbolAt.{SymbolAt}
-use Rattle.symbol.specs.declared.table.SymbolAt.TheVariants.{At as Symbol-as-At, Refused}
 use Rattle.symbol.specs.Table.{symbol_at, name_in, symbol_index}
 use Rattle.symbol.proofs.Names.{symbol_name_long, symbol_name_fits}
 use Rattle.lookup.specs.Wanted.{name_of, bytes_of, is_named}
 use Rattle.lookup.proofs.Picking.{by-test}
 
 module _ (class : Class) (order : Order) (symbols strings : List ℕ) (i : ℕ) where
-  pub name_at : (entry : Symbol) → symbol_at class order symbols (symbol_index i) ≡ Symbol-as-At entry
+  pub name_at : (entry : Symbol) → symbol_at class order symbols (symbol_index i) ≡ Ok entry
       → name_of class order symbols strings i ≡ bytes_of strings (string_at strings entry.name)
   unfolding name_of
   name_at entry there =
@@ -37,7 +35,7 @@ module _ (class : Class) (order : Order) (symbols strings : List ℕ) (i : ℕ) 
       (symbol_name_fits class order symbols strings (symbol_index i) (ltb-false limit (length strings) short)
       ∙ ap (name_in strings) there))
 
-  pub name_none : (r : Refusal) → symbol_at class order symbols (symbol_index i) ≡ Refused r
+  pub name_none : (r : Refusal) → symbol_at class order symbols (symbol_index i) ≡ Err r
       → name_of class order symbols strings i ≡ none
   unfolding name_of
   name_none r none_there =
@@ -48,13 +46,13 @@ module _ (class : Class) (order : Order) (symbols strings : List ℕ) (i : ℕ) 
       (symbol_name_fits class order symbols strings (symbol_index i) (ltb-false limit (length strings) short)
       ∙ ap (name_in strings) none_there))
 
-abbrev pub named_at : (strings name : List ℕ) → SymbolAt → Bool
-named_at strings name (Symbol-as-At entry) = string_equals strings entry.name name
-named_at strings name (Refused r) = false
+abbrev pub named_at : (strings name : List ℕ) → Result Symbol Refusal → Bool
+named_at strings name (Ok entry) = string_equals strings entry.name name
+named_at strings name (Err r) = false
 
-is_named_lem : (strings name : List ℕ) (s : StringAt) → is_named name (bytes_of strings s) ≡ is_name strings name s
-is_named_lem strings name (At start len) = refl
-is_named_lem strings name (String-as-Refused r) = refl
+is_named_lem : (strings name : List ℕ) (s : Result Place Refusal) → is_named name (bytes_of strings s) ≡ is_name strings name s
+is_named_lem strings name (Ok place) = refl
+is_named_lem strings name (Err r) = refl
 
 equals_named : (strings name : List ℕ) (at : ℕ)
     → is_named name (bytes_of strings (string_at strings at)) ≡ string_equals strings at name
@@ -66,8 +64,8 @@ pub named_at_lem : (class : Class) (order : Order) (symbols strings name : List 
     ≡ named_at strings name (symbol_at class order symbols (symbol_index i))
 named_at_lem class order symbols strings name i = by (symbol_at class order symbols (symbol_index i)) refl
   where
-    by : (s : SymbolAt) → symbol_at class order symbols (symbol_index i) ≡ s
+    by : (s : Result Symbol Refusal) → symbol_at class order symbols (symbol_index i) ≡ s
         → is_named name (name_of class order symbols strings i) ≡ named_at strings name s
-    by (Symbol-as-At entry) e =
+    by (Ok entry) e =
         ap (is_named name) (name_at class order symbols strings i entry e) ∙ equals_named strings name entry.name
-    by (Refused r) e = ap (is_named name) (name_none class order symbols strings i r e)
+    by (Err r) e = ap (is_named name) (name_none class order symbols strings i r e)

@@ -5,20 +5,21 @@
 --     name_of      the bytes of a symbol's name, or none where there is no such symbol or its name cannot be read
 --     is_named     whether that is a name; one that cannot be read never is
 --     wanted       whether a symbol has the name and the version that are asked for; `wanted_in` of the parts that this looks at
+--     found, missing    what a lookup gives: a symbol, or none, after so many probes
 --     walk         the first match on a list of numbers, and how many of them were tested
 -- Assumes nothing.
-use Rattle.std.specs.Prelude.{ℕ, Bool, false, ◌&&◌, List, [], ◌∷◌, length, take, drop}
+use Rattle.std.specs.Prelude.{ℕ, Bool, false, ◌&&◌, List, [], ◌∷◌, length, take, drop, Result, Ok, Err, Some, None}
 use Rattle.std.proofs.Math.Option.{Option, some, none}
 use Rattle.endian.specs.declared.kinds.Class.{Class}
 use Rattle.endian.specs.declared.kinds.Order.{Order}
-use Rattle.strings.specs.declared.StringAt.{StringAt}
-use Rattle.strings.specs.declared.StringAt.TheVariants.{At, Refused as String-as-Refused}
+use Rattle.endian.specs.declared.refusals.Refusal.{Refusal}
+use Rattle.strings.specs.declared.Place.{Place}
 use Rattle.endian.specs.First.{same}
+use Rattle.symbol.specs.declared.table.SymbolIndex.{SymbolIndex}
 use Rattle.symbol.specs.Table.{symbol_name, symbol_index}
 use Rattle.version_match.specs.declared.Need.{Need}
 use Rattle.version_match.specs.Match.{matching}
-use Rattle.lookup.specs.declared.Answer.{Answer}
-use Rattle.lookup.specs.declared.Answer.TheVariants.{Found, Missing}
+use Rattle.lookup.specs.declared.Lookup.{Lookup}
 use Rattle.lookup.specs.Pick.{first_of, up_to}
 
 pub record Parts : Type 0 where
@@ -42,9 +43,9 @@ all_parts p asked =
     p.table ∷ p.symbols ∷ p.strings ∷ p.versyms ∷ p.version_strings ∷ asked.name ∷ asked.need_name ∷ []
 
 -- the bytes of a string that was looked for
-abbrev pub bytes_of : List ℕ → StringAt → Option (List ℕ)
-bytes_of strings (At start len) = some (take len (drop start strings))
-bytes_of strings (String-as-Refused r) = none
+abbrev pub bytes_of : List ℕ → Result Place Refusal → Option (List ℕ)
+bytes_of strings (Ok place) = some (take place.len (drop place.start strings))
+bytes_of strings (Err r) = none
 
 unfoldable pub name_of : Class → Order → (symbols strings : List ℕ) → ℕ → Option (List ℕ)
 name_of class order symbols strings i = bytes_of strings (symbol_name class order symbols strings (symbol_index i))
@@ -63,9 +64,15 @@ wanted class order p asked =
     wanted_in class order p.symbols p.strings p.versyms p.store p.version_strings asked
 
 -- a symbol, or none, after so many probes
-abbrev pub answer_after : Option ℕ → ℕ → Answer
-answer_after (some i) probes = Found (symbol_index i) probes
-answer_after none probes = Missing probes
+abbrev pub found : SymbolIndex → ℕ → Lookup
+found symbol probes = record { symbol = Some symbol; probes = probes }
 
-abbrev pub walk : (ℕ → Bool) → List ℕ → Answer
+abbrev pub missing : ℕ → Lookup
+missing probes = record { symbol = None; probes = probes }
+
+abbrev pub answer_after : Option ℕ → ℕ → Lookup
+answer_after (some i) probes = found (symbol_index i) probes
+answer_after none probes = missing probes
+
+abbrev pub walk : (ℕ → Bool) → List ℕ → Lookup
 walk match xs = answer_after (first_of match xs) (length (up_to match xs))

@@ -6,17 +6,15 @@ ghost use Rattle.std.specs.Prelude.{◌≡◌, min};
 ghost use Rattle.lookup.specs.Wanted.{name_of, is_named, wanted_in};
 
 use endian::kinds::{Class, Order};
-use endian::refusals::Refusal;
 use strings::string_equals;
-use symbol::table::{SymbolAt, SymbolIndex, symbol_at};
+use symbol::table::{SymbolIndex, symbol_at};
 use version_match::{Need, matches};
 
-// A symbol and the probes that were made, the probes alone where there is none, or a refusal.
-#[derive(Clone, Copy)]
-pub enum Answer {
-    Found(SymbolIndex, usize),
-    Missing(usize),
-    Refused(Refusal),
+// What a lookup that is not refused gives: the symbol, or none, and the probes that were made.
+#[derive(Clone, Copy, Debug, PartialEq, Eq)]
+pub struct Lookup {
+    pub symbol: Option<SymbolIndex>,
+    pub probes: usize,
 }
 
 // Whether a symbol's name can be read and is the name. Number 0, or one with no whole record, has none.
@@ -32,8 +30,8 @@ pub fn has_name(
         ≡ is_named name.now (name_of class order symbols.now strings.now symbol.0) }
 {
     match symbol_at(class, order, symbols, symbol) {
-        SymbolAt::At(entry) => string_equals(strings, entry.name, name),
-        SymbolAt::Refused(_) => false,
+        Ok(entry) => string_equals(strings, entry.name, name),
+        Err(_) => false,
     }
 }
 
@@ -72,8 +70,9 @@ pub fn is_wanted(
     )
 }
 
+// Beside the library's `min`, since the edits smaller_is_the_larger and smaller_is_always_the_first name it.
 pub fn smaller(a: u32, b: u32) -> u32
     ensures { result ≡ min a b }
 {
-    if a <= b { a } else { b }
+    a.min(b)
 }

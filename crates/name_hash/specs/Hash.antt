@@ -3,12 +3,11 @@
 --     gnu_hash    the GNU convention: from 5381, times 33 plus the byte, modulo 2 ^ 32
 --     sysv_hash   the gABI's `elf_hash`, on words of 32 bits
 --     name_hash   either of them as an answer: a name past the limit is refused
-use Rattle.std.specs.Prelude.{ℕ, ◌+◌, ◌-◌, ◌*◌, ◌/◌, ◌%◌, ◌^◌, cond, ltb, length}
+use Rattle.std.specs.Prelude.{ℕ, ◌+◌, ◌-◌, ◌*◌, ◌/◌, ◌%◌, ◌^◌, cond, ltb, length, Result, Ok, Err}
 use mathlib.Core.List.{List, foldl}
 use Rattle.std.specs.Int.Bits.{bit_and, bit_xor}
 use Rattle.endian.specs.Refusals.{limit, too_long}
-use Rattle.name_hash.specs.declared.NameHash.{NameHash}
-use Rattle.name_hash.specs.declared.NameHash.TheVariants.{Hash, Refused}
+use Rattle.endian.specs.declared.refusals.Refusal.{Refusal}
 
 abbrev pub gnu_step : ℕ → ℕ → ℕ
 gnu_step h b = (h * 33 + b) % 2 ^ 32
@@ -26,5 +25,5 @@ sysv_step h b =
 unfoldable pub sysv_hash : List ℕ → ℕ
 sysv_hash name = foldl sysv_step 0 name
 
-abbrev pub name_hash : (List ℕ → ℕ) → List ℕ → NameHash
-name_hash hash name = cond (ltb limit (length name)) (Refused too_long) (Hash (hash name))
+abbrev pub name_hash : (List ℕ → ℕ) → List ℕ → Result ℕ Refusal
+name_hash hash name = cond (ltb limit (length name)) (Err too_long) (Ok (hash name))

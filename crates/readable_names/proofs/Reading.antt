@@ -13,11 +13,12 @@ use Rattle.endian.specs.declared.kinds.Class.{Class}
 use Rattle.endian.specs.declared.kinds.Order.{Order}
 use Rattle.endian.specs.First.{first, is_zero, readable}
 use Rattle.endian.specs.Refusals.{limit, no_string}
-use Rattle.strings.specs.declared.StringAt.TheVariants.{At, Refused}
+use Rattle.std.specs.Prelude.{Result, Ok, Err}
+use Rattle.endian.specs.declared.refusals.Refusal.{Refusal}
+use Rattle.strings.specs.declared.Place.{Place}
 use Rattle.strings.specs.Strings.{string_at}
 use Rattle.strings.proofs.Readable.{readable_below}
-use Rattle.symbol.specs.declared.table.SymbolAt.{SymbolAt}
-use Rattle.symbol.specs.declared.table.SymbolAt.TheVariants.{At as Symbol-as-At, Refused as Symbol-as-Refused}
+use Rattle.symbol_entry.specs.declared.Symbol.{Symbol}
 use Rattle.symbol.specs.Table.{symbol_at, symbol_index}
 use Rattle.lookup.specs.Pick.{is_none}
 use Rattle.lookup.specs.Wanted.{bytes_of}
@@ -32,7 +33,7 @@ some_read strings at =
     (λ short. rw short (by (readable (drop at strings)) ∙ readable_below strings at))
   where
     by : (t : Bool)
-        → not (is_none (bytes_of strings (cond t (At at (first is_zero (drop at strings))) (Refused no_string)))) ≡ t
+        → not (is_none (bytes_of strings (cond {A = Result Place Refusal} t (Ok (record { start = at; len = first is_zero (drop at strings) })) (Err no_string)))) ≡ t
     by true = refl
     by false = refl
 
@@ -41,8 +42,8 @@ pub name_readable_lem : (class : Class) (order : Order) (symbols strings : List 
     ≡ starts_below (readable_end strings) (symbol_at class order symbols (symbol_index i))
 name_readable_lem class order symbols strings i = by (symbol_at class order symbols (symbol_index i)) refl
   where
-    by : (s : SymbolAt) → symbol_at class order symbols (symbol_index i) ≡ s
+    by : (s : Result Symbol Refusal) → symbol_at class order symbols (symbol_index i) ≡ s
         → readable_in class order symbols strings i ≡ starts_below (readable_end strings) s
-    by (Symbol-as-At entry) e =
+    by (Ok entry) e =
         ap (λ o. not (is_none o)) (name_at class order symbols strings i entry e) ∙ some_read strings entry.name
-    by (Symbol-as-Refused r) e = ap (λ o. not (is_none o)) (name_none class order symbols strings i r e)
+    by (Err r) e = ap (λ o. not (is_none o)) (name_none class order symbols strings i r e)

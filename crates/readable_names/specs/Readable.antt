@@ -4,13 +4,13 @@
 --     readable_end    the place before which a string that can be read starts
 --     starts_below    of a symbol that was looked for: its name starts below a place
 -- Assumes nothing.
-use Rattle.std.specs.Prelude.{ℕ, Bool, false, cond, not, List, ltb, length}
+use Rattle.std.specs.Prelude.{ℕ, Bool, false, cond, not, List, ltb, length, Result, Ok, Err}
 use Rattle.endian.specs.declared.kinds.Class.{Class}
 use Rattle.endian.specs.declared.kinds.Order.{Order}
 use Rattle.endian.specs.Refusals.{limit}
 use Rattle.strings.specs.AfterZero.{after_zero}
-use Rattle.symbol.specs.declared.table.SymbolAt.{SymbolAt}
-use Rattle.symbol.specs.declared.table.SymbolAt.TheVariants.{At, Refused}
+use Rattle.endian.specs.declared.refusals.Refusal.{Refusal}
+use Rattle.symbol_entry.specs.declared.Symbol.{Symbol}
 use Rattle.lookup.specs.Pick.{is_none}
 use Rattle.lookup.specs.Wanted.{name_of}
 
@@ -20,6 +20,6 @@ readable_in class order symbols strings i = not (is_none (name_of class order sy
 abbrev pub readable_end : (strings : List ℕ) → ℕ
 readable_end strings = cond (ltb limit (length strings)) 0 (after_zero strings)
 
-abbrev pub starts_below : ℕ → SymbolAt → Bool
-starts_below end (At entry) = ltb entry.name end
-starts_below end (Refused r) = false
+abbrev pub starts_below : ℕ → Result Symbol Refusal → Bool
+starts_below end (Ok entry) = ltb entry.name end
+starts_below end (Err r) = false

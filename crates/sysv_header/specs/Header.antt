@@ -4,14 +4,12 @@
 --     sysv_fault                         refusal 23, 24 or 25, where the header, the buckets or the chains are not whole
 --     sysv_length                        how many chains there are, or why there is no whole table
 -- Assumes nothing.
-use Rattle.std.specs.Prelude.{ℕ, ◌+◌, ◌*◌, cond, List, ltb, length}
+use Rattle.std.specs.Prelude.{ℕ, ◌+◌, ◌*◌, cond, List, ltb, length, Result, Ok, Err}
 use Rattle.std.proofs.Math.Option.{Option, some, none}
 use Rattle.endian.specs.declared.kinds.Order.{Order}
 use Rattle.endian.specs.declared.refusals.Refusal.{Refusal}
 use Rattle.endian.specs.Refusals.{limit, too_long, unless_refused, bad_sysv_header, bad_sysv_buckets, bad_sysv_chains}
 use Rattle.endian.specs.Word.{word_at}
-use Rattle.sysv_header.specs.declared.length.ChainCount.{ChainCount}
-use Rattle.sysv_header.specs.declared.length.ChainCount.TheVariants.{Chains, Refused}
 
 module _ (order : Order) (table : List ℕ) where
   abbrev pub bucket_count_of : ℕ
@@ -29,5 +27,5 @@ module _ (order : Order) (table : List ℕ) where
       (cond (ltb (length table) chains_at) (some bad_sysv_buckets)
       (cond (ltb (length table) (chains_at + chain_count_of * 4)) (some bad_sysv_chains) none))
 
-  unfoldable pub sysv_length : ChainCount
-  sysv_length = cond (ltb limit (length table)) (Refused too_long) (unless_refused Refused sysv_fault (Chains chain_count_of))
+  unfoldable pub sysv_length : Result ℕ Refusal
+  sysv_length = cond (ltb limit (length table)) (Err too_long) (unless_refused Err sysv_fault (Ok chain_count_of))

@@ -1,19 +1,15 @@
 -- `gnu_check_hashes::hashes::symbol_hash` meets its contract. Each arm is told what `symbol_at` answered. Assumes nothing.
-use mathlib.Core.Path.{sym, ◌∙◌}
+use Rattle.std.proofs.Common.{sym, ◌∙◌}
 use Rattle.gnu_check_hashes.proofs.Hashing.{hash_in_at, hash_in_none}
 use Rattle.gnu_check_hashes.proofs.hashes.symbol_hash.Goals as goal
 
-pub returns-in-At : goal.returns-in-At
-returns-in-At c =
-    let called = c in
-    let args = called.args in
+pub returns-in-Ok : goal.returns-in-Ok
+returns-in-Ok c =
+    let a = c.args in
     c.hash_at.ensures
-    ∙ sym (hash_in_at args.class args.order args.symbols.now args.strings.now
-    args.symbol.0 _ (sym called.symbol_at.ensures ∙ c.in-At.is))
+    ∙ sym (hash_in_at a.class a.order a.symbols.now a.strings.now a.symbol.0 _ (sym c.symbol_at.ensures ∙ c.in-Ok.is))
 
-pub returns-in-Refused : goal.returns-in-Refused
-returns-in-Refused c =
-    let called = c in
-    let args = called.args in
-    sym (hash_in_none args.class args.order args.symbols.now args.strings.now
-    args.symbol.0 _ (sym called.symbol_at.ensures ∙ c.in-Refused.is))
+pub returns-in-Err : goal.returns-in-Err
+returns-in-Err c =
+    let a = c.args in
+    sym (hash_in_none a.class a.order a.symbols.now a.strings.now a.symbol.0 _ (sym c.symbol_at.ensures ∙ c.in-Err.is))

@@ -1,12 +1,10 @@
 -- `gnu_table::filter::bloom_filter` meets its contract. Both bits that were tested are the definition's; each return is then the
 -- law of its answer. Assumes nothing.
-use Prim.Native.Nat.{ℕ, ◌%◌, ◌*◌, ◌<◌, ◌≤◌}
-use mathlib.Core.Path.{◌≡◌, sym, ◌∙◌}
-use native.Mathlib.Omega.{arith}
-use native.Mathlib.Nat.{mod-lt}
+use Rattle.std.proofs.Common.{ℕ, ◌%◌, ◌*◌, ◌<◌, ◌≤◌, ◌≡◌, sym, ap, ◌∙◌, arith, mod-lt}
+use Rattle.std.specs.Prelude.{Ok}
 use Rattle.gnu_table.specs.Table.{bloom_first, bloom_second}
 use Rattle.gnu_table.specs.Places.{table_at}
-use Rattle.gnu_table.proofs.Filters.{filter_none, filter_first, filter_shift, filter_second, filter_passes}
+use Rattle.gnu_table.proofs.Filters.{filter_none, filter_first, filter_shift, filter_is}
 use Rattle.gnu_table.proofs.filter.bloom_filter.Goals as goal
 
 -- a bit's place in a word of the class
@@ -24,50 +22,32 @@ has_bit-requires c = in_word _ _ c.word_size.ensures.1 c.word_size.ensures.2
 pub returns-then-not-has_bit : goal.returns-then-not-has_bit
 unfolding bloom_first
 returns-then-not-has_bit c =
-    let some = c in
-    let a = some.args in
+    let a = c.args in
     let one : c.has_bit.result ≡ bloom_first (table_at a.class a.order a.table.now a.layout 0) a.hash =
     c.has_bit.ensures ∙ rw (c.bloom_word-word.ensures, c.word_size.ensures.0) in
-    sym (filter_first (table_at a.class a.order a.table.now a.layout 0) a.hash some.if-bloom_count-eq0.false
+    sym (filter_first (table_at a.class a.order a.table.now a.layout 0) a.hash c.if-bloom_count-eq0.false
     (sym one ∙ c.if-not-has_bit.true))
 
 pub returns-then-shift-gt31 : goal.returns-then-shift-gt31
 unfolding bloom_first
 returns-then-shift-gt31 c =
-    let some = c in
-    let a = some.args in
+    let a = c.args in
     let one : c.has_bit.result ≡ bloom_first (table_at a.class a.order a.table.now a.layout 0) a.hash =
     c.has_bit.ensures ∙ rw (c.bloom_word-word.ensures, c.word_size.ensures.0) in
-    sym (filter_shift (table_at a.class a.order a.table.now a.layout 0) a.hash some.if-bloom_count-eq0.false
+    sym (filter_shift (table_at a.class a.order a.table.now a.layout 0) a.hash c.if-bloom_count-eq0.false
     (sym one ∙ c.if-not-has_bit.false) c.if-shift-gt31.true)
 
 pub has_bit-requires-2 : goal.has_bit-requires-2
 has_bit-requires-2 c =
-    let sized = c.word_size in
-    in_word _ _ sized.ensures.1 sized.ensures.2
-
-pub returns-then-not-has_bit-2 : goal.returns-then-not-has_bit-2
-unfolding bloom_first bloom_second
-returns-then-not-has_bit-2 c =
-    let some = c in
-    let a = some.args in
-    let one : c.has_bit.result ≡ bloom_first (table_at a.class a.order a.table.now a.layout 0) a.hash =
-    c.has_bit.ensures ∙ rw (c.bloom_word-word.ensures, c.word_size.ensures.0) in
-    let two : c.has_bit-2.result ≡ bloom_second (table_at a.class a.order a.table.now a.layout 0) a.hash =
-    c.has_bit-2.ensures ∙ rw (c.bloom_word-word.ensures, c.word_size.ensures.0) in
-    sym (filter_second (table_at a.class a.order a.table.now a.layout 0) a.hash some.if-bloom_count-eq0.false
-    (sym one ∙ c.if-not-has_bit.false)
-    c.if-shift-gt31.false (sym two ∙ c.if-not-has_bit-2.true))
+    in_word _ _ c.word_size.ensures.1 c.word_size.ensures.2
 
 pub returns : goal.returns
 unfolding bloom_first bloom_second
 returns c =
-    let some = c in
-    let a = some.args in
-    let one : c.has_bit.result ≡ bloom_first (table_at a.class a.order a.table.now a.layout 0) a.hash =
+    let a = c.args in
+    let t = table_at a.class a.order a.table.now a.layout 0 in
+    let one : c.has_bit.result ≡ bloom_first t a.hash =
     c.has_bit.ensures ∙ rw (c.bloom_word-word.ensures, c.word_size.ensures.0) in
-    let two : c.has_bit-2.result ≡ bloom_second (table_at a.class a.order a.table.now a.layout 0) a.hash =
+    let two : c.has_bit-2.result ≡ bloom_second t a.hash =
     c.has_bit-2.ensures ∙ rw (c.bloom_word-word.ensures, c.word_size.ensures.0) in
-    sym (filter_passes (table_at a.class a.order a.table.now a.layout 0) a.hash some.if-bloom_count-eq0.false
-    (sym one ∙ c.if-not-has_bit.false)
-    c.if-shift-gt31.false (sym two ∙ c.if-not-has_bit-2.false))
+    ap Ok two ∙ sym (filter_is t a.hash c.if-bloom_count-eq0.false (sym one ∙ c.if-not-has_bit.false) c.if-shift-gt31.false)

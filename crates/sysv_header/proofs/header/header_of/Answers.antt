@@ -14,27 +14,20 @@ returns-then-table-lt8 c = simp (le-ltb _ _ c.if-table-gt-LIMIT.false, lt-ltb _ 
 pub returns-then-table-chains_at : goal.returns-then-table-chains_at
 unfolding header_at
 returns-then-table-chains_at c =
-    let whole = c in
     let short = rw c.u32_at-buckets.ensures at c.if-table-chains_at.true in
-    simp (le-ltb _ _ whole.if-table-gt-LIMIT.false, le-ltb _ _ whole.if-table-lt8.false, lt-ltb _ _ short)
+    simp (le-ltb _ _ c.if-table-gt-LIMIT.false, le-ltb _ _ c.if-table-lt8.false, lt-ltb _ _ short)
 
 pub returns-then-table-chains_at-2 : goal.returns-then-table-chains_at-2
 unfolding header_at
 returns-then-table-chains_at-2 c =
-    let bucketed = c in
-    let read = bucketed in
-    let whole = read in
-    let fits = rw read.u32_at-buckets.ensures at bucketed.if-table-chains_at.false in
-    let short = rw (read.u32_at-buckets.ensures, c.u32_at-chains.ensures) at c.if-table-chains_at-2.true in
-    simp (le-ltb _ _ whole.if-table-gt-LIMIT.false, le-ltb _ _ whole.if-table-lt8.false, le-ltb _ _ fits, lt-ltb _ _ short)
+    let fits = rw c.u32_at-buckets.ensures at c.if-table-chains_at.false in
+    let short = rw (c.u32_at-buckets.ensures, c.u32_at-chains.ensures) at c.if-table-chains_at-2.true in
+    simp (le-ltb _ _ c.if-table-gt-LIMIT.false, le-ltb _ _ c.if-table-lt8.false, le-ltb _ _ fits, lt-ltb _ _ short)
 
 pub returns : goal.returns
 unfolding header_at
 returns c =
-    let bucketed = c in
-    let read = bucketed in
-    let whole = read in
-    let fits = rw read.u32_at-buckets.ensures at bucketed.if-table-chains_at.false in
-    let ends = rw (read.u32_at-buckets.ensures, c.u32_at-chains.ensures) at c.if-table-chains_at-2.false in
-    simp (le-ltb _ _ whole.if-table-gt-LIMIT.false, le-ltb _ _ whole.if-table-lt8.false, le-ltb _ _ fits, le-ltb _ _ ends)
-    (rw (read.u32_at-buckets.ensures, c.u32_at-chains.ensures))
+    let fits = rw c.u32_at-buckets.ensures at c.if-table-chains_at.false in
+    let ends = rw (c.u32_at-buckets.ensures, c.u32_at-chains.ensures) at c.if-table-chains_at-2.false in
+    simp (le-ltb _ _ c.if-table-gt-LIMIT.false, le-ltb _ _ c.if-table-lt8.false, le-ltb _ _ fits, le-ltb _ _ ends)
+    (rw (c.u32_at-buckets.ensures, c.u32_at-chains.ensures))
