@@ -16,9 +16,11 @@ use mathlib.Core.Path.{◌≡◌, refl}
 use mathlib.Core.Bool.{Bool, true, false}
 use mathlib.Core.List.{List, [], ◌∷◌, ◌++◌, map}
 use lib.ListN.{replicate}
+use Rattle.std.specs.Prelude.{Result, Ok}
 use Rattle.endian.specs.declared.kinds.Class.TheVariants.{Elf32, Elf64}
 use Rattle.endian.specs.declared.kinds.Order.{Order}
 use Rattle.endian.specs.declared.kinds.Order.TheVariants.{Little, Big}
+use Rattle.endian.specs.declared.refusals.Refusal.{Refusal}
 use Rattle.endian.specs.First.{first, readable}
 use Rattle.endian.specs.Refusals.{limit, note_short, bad_note_descriptor, bad_property}
 use Rattle.endian.specs.Word.{word_at}
@@ -27,9 +29,8 @@ use Rattle.gnu.specs.Lookup.{start_of, gnu_lookup}
 use Rattle.gnu_table.specs.Table.{bloom_first, bloom_second, bloom_filter}
 use Rattle.gnu_rules.specs.declared.Checked.TheVariants.{Accepted}
 use Rattle.gnu_rules.specs.Rules.{gnu_check, power_of_two, gnu_hash_at, is_last, findings, longest, verdict}
-use Rattle.lookup.specs.declared.Answer.{Answer}
-use Rattle.lookup.specs.declared.Answer.TheVariants.{Found, Missing}
-use Rattle.lookup.specs.Wanted.{name_of, wanted_in}
+use Rattle.lookup.specs.declared.Lookup.{Lookup}
+use Rattle.lookup.specs.Wanted.{name_of, wanted_in, found, missing}
 use Rattle.name_hash.specs.Hash.{gnu_hash, sysv_hash}
 use Rattle.property_reader.specs.declared.Property.{Property}
 use Rattle.property_reader.specs.declared.PropertyStep.TheVariants.{Property as Step-as-Property, Refused}
@@ -95,7 +96,7 @@ gnu_accepted Little = refl
 gnu_accepted Big = refl
 
 -- a lookup of a name by its hash, without versions
-gnu_find_lem : Order → (bloom : ℕ) → List ℕ → Answer
+gnu_find_lem : Order → (bloom : ℕ) → List ℕ → Result Lookup Refusal
 gnu_find_lem order bloom name =
     gnu_find Elf32 order
     (record {
@@ -110,9 +111,9 @@ gnu_find_lem order bloom name =
 
 -- bloom 65600: `a` found at 1, 1 probe; `b` none, 0 probes; bloom all ones: `b` none, 1 probe
 gnu_lookups : (order : Order)
-    → (gnu_find_lem order 65600 a ≡ Found (symbol_index 1) 1)
-    × (gnu_find_lem order 65600 b ≡ Missing 0)
-    × (gnu_find_lem order 0xffff_ffff b ≡ Missing 1)
+    → (gnu_find_lem order 65600 a ≡ Ok (found (symbol_index 1) 1))
+    × (gnu_find_lem order 65600 b ≡ Ok (missing 0))
+    × (gnu_find_lem order 0xffff_ffff b ≡ Ok (missing 1))
 unfolding zeros four fours gnu_table_lem gnu_symbols gnu_strings gnu_find_lem gnu_find gnu_hash gnu_lookup bloom_filter bloom_first bloom_second start_of wanted_in name_of symbol_at readable first word_at stored_at valid entry_at versym_at matching
 gnu_lookups Little = (refl, refl, refl)
 gnu_lookups Big = (refl, refl, refl)

@@ -3,5 +3,6 @@
 -- `Word`: a word in two parts, and past the end, over every width and both orders.
 pub mod Falsity
 pub mod First
+mod Long
 mod Numbers
 pub mod Word

@@ -1,5 +1,7 @@
 pub mod Bytes
 pub mod First
 pub mod InOrder
+pub mod Kinds
+pub mod Lent
 pub mod Refusals
 pub mod Word

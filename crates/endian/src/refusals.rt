@@ -1,7 +1,11 @@
 // The size limit, and the refusals by their numbers: document 01's, and our own.
-ghost use Rattle.std.specs.Prelude.{◌≡◌};
+ghost use Rattle.std.specs.Prelude.{◌≡◌, map};
 ghost use Rattle.endian.specs.InOrder.{refusals};
-ghost use Rattle.endian.specs.Refusals.{limit};
+ghost use Rattle.endian.specs.Lent.{now_of};
+ghost use Rattle.endian.specs.Refusals.{limit, any_long};
+
+use std::error::Error;
+use std::fmt;
 
 // The most bytes that a lent part may have.
 pub const LIMIT: usize = 1073741824;
@@ -9,6 +13,14 @@ pub const LIMIT: usize = 1073741824;
 // A refusal is its number, and nothing else.
 #[derive(Clone, Copy, Debug, PartialEq, Eq)]
 pub struct Refusal(pub u32);
+
+impl fmt::Display for Refusal {
+    fn fmt<W: fmt::Write>(&self, f: &mut fmt::Formatter<W>) -> fmt::Result {
+        write!(f, "refused, number {}", self.0)
+    }
+}
+
+impl Error for Refusal {}
 
 pub const TOO_LONG: Refusal = Refusal(1);
 
@@ -138,4 +150,11 @@ fn in_order() -> [Refusal; 38]
         NO_SYMBOL,
         UNKNOWN_KIND,
     ]
+}
+
+// Whether one of several parts is too long.
+pub fn any_long(parts: &[&[u8]]) -> bool
+    ensures { result ≡ any_long (map now_of parts.now) }
+{
+    parts.iter().any(|part| LIMIT < part.len())
 }

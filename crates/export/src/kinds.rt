@@ -8,43 +8,31 @@ use endian::kinds::{Class, Order};
 use endian::refusals::{LIMIT, Refusal, TOO_LONG};
 
 // Whether a number is that of a class; or, which is the same, of an order.
+#[tactic(auto, unfolding(crate::specs::Kinds::is_kind))]
 pub fn is_kind(number: u8) -> bool
     ensures { result ≡ is_kind number }
 {
-    match number {
-        1 => true,
-        2 => true,
-        _ => false,
-    }
+    matches!(number, 1 | 2)
 }
 
 pub fn are_kinds(class: u8, order: u8) -> bool
     ensures { result ≡ are_kinds class order }
 {
-    if !is_kind(class) {
-        return false;
-    }
-    is_kind(order)
+    is_kind(class) && is_kind(order)
 }
 
 // The class of a number that is one; else ELF64.
 pub fn class_of(class: u8) -> Class
     ensures { result ≡ class_of class }
 {
-    match class {
-        1 => Class::Elf32,
-        _ => Class::Elf64,
-    }
+    Class::try_from(class).unwrap_or(Class::Elf64)
 }
 
 // The order of a number that is one; else big.
 pub fn order_of(order: u8) -> Order
     ensures { result ≡ order_of order }
 {
-    match order {
-        1 => Order::Little,
-        _ => Order::Big,
-    }
+    Order::try_from(order).unwrap_or(Order::Big)
 }
 
 // The refusal of a part that is too long, or else the one that is given.

@@ -1,12 +1,11 @@
 // What the lookups in both hash tables answer to C.
-ghost use Rattle.std.specs.Prelude.{◌≡◌, [], ◌∷◌};
-ghost use Rattle.lookup.specs.declared.Answer.TheVariants.{Refused};
+ghost use Rattle.std.specs.Prelude.{◌≡◌, [], ◌∷◌, Err};
 ghost use Rattle.export.specs.Kinds.{kind_refusal};
 ghost use Rattle.export.specs.Lookups.{lookup_answer};
 
 use super::kinds::unless_long;
-use endian::refusals::UNKNOWN_KIND;
-use lookup::Answer;
+use endian::refusals::{Refusal, UNKNOWN_KIND};
+use lookup::Lookup;
 
 // What a lookup gives: found is 1 with a symbol, and 0 without.
 #[repr(C)]
@@ -19,23 +18,17 @@ pub struct LookupAnswer {
 }
 
 // An answer of either lookup, as C gets it.
-pub fn lookup_answer(answer: Answer) -> LookupAnswer
+pub fn lookup_answer(answer: Result<Lookup, Refusal>) -> LookupAnswer
     ensures { result ≡ lookup_answer answer }
 {
     match answer {
-        Answer::Found(symbol, probes) => LookupAnswer {
+        Ok(lookup) => LookupAnswer {
             refusal: 0,
-            found: 1,
-            symbol: symbol.0 as u64,
-            probes: probes as u64,
+            found: lookup.symbol.is_some() as u32,
+            symbol: lookup.symbol.map_or(0, |symbol| symbol.0 as u64),
+            probes: lookup.probes as u64,
         },
-        Answer::Missing(probes) => LookupAnswer {
-            refusal: 0,
-            found: 0,
-            symbol: 0,
-            probes: probes as u64,
-        },
-        Answer::Refused(refusal) => LookupAnswer {
+        Err(refusal) => LookupAnswer {
             refusal: refusal.0,
             found: 0,
             symbol: 0,
@@ -56,7 +49,7 @@ pub fn unknown_lookup(
 ) -> LookupAnswer
     ensures { result
         ≡ lookup_answer
-        (Refused
+        (Err
         (kind_refusal
         (table.now ∷ symbols.now ∷ strings.now ∷ versyms.now ∷ version_strings.now
         ∷ name.now ∷ need_name.now ∷ []))) }
@@ -64,5 +57,5 @@ pub fn unknown_lookup(
     let names = unless_long(name, unless_long(need_name, UNKNOWN_KIND));
     let versions = unless_long(versyms, unless_long(version_strings, names));
     let refusal = unless_long(table, unless_long(symbols, unless_long(strings, versions)));
-    lookup_answer(Answer::Refused(refusal))
+    lookup_answer(Err(refusal))
 }

@@ -1,9 +1,9 @@
 -- The hash of a name as C gets it. Assumes nothing.
-use Rattle.name_hash.specs.declared.NameHash.{NameHash}
-use Rattle.name_hash.specs.declared.NameHash.TheVariants.{Hash, Refused}
+use Rattle.std.specs.Prelude.{ℕ, Result, Ok, Err}
+use Rattle.endian.specs.declared.refusals.Refusal.{Refusal}
 use Rattle.export.specs.declared.answers.NumberAnswer.{NumberAnswer}
 use Rattle.export.specs.Answers.{number, no_number}
 
-abbrev pub hash_answer : NameHash → NumberAnswer
-hash_answer (Hash h) = number h
-hash_answer (Refused r) = no_number r
+abbrev pub hash_answer : Result ℕ Refusal → NumberAnswer
+hash_answer (Ok h) = number h
+hash_answer (Err r) = no_number r

@@ -3,15 +3,15 @@ ghost use Rattle.std.specs.Prelude.{◌≡◌};
 ghost use Rattle.name_hash.specs.Hash.{name_hash, gnu_hash, sysv_hash};
 ghost use Rattle.export_bytes.specs.Hashes.{hash_answer};
 
+use endian::refusals::Refusal;
 use export::answers::{NumberAnswer, no_number, number_answer};
-use name_hash::NameHash;
 
-pub(crate) fn hash_answer(hash: NameHash) -> NumberAnswer
+pub(crate) fn hash_answer(hash: Result<u32, Refusal>) -> NumberAnswer
     ensures { result ≡ hash_answer hash }
 {
     match hash {
-        NameHash::Hash(value) => number_answer(value as u64),
-        NameHash::Refused(refusal) => no_number(refusal),
+        Ok(value) => number_answer(value as u64),
+        Err(refusal) => no_number(refusal),
     }
 }
 

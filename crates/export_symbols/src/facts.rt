@@ -5,7 +5,7 @@ ghost use Rattle.symbol_definition.specs.Definition.{definition};
 ghost use Rattle.export_symbols.specs.Facts.{definition_answer, entry, facts};
 
 use export::answers::{NumberAnswer, no_number, truth_answer};
-use symbol_definition::{Definition, is_definition};
+use symbol_definition::is_definition;
 use symbol_entry::Symbol;
 
 // What a symbol's info, other and section number say; the last five are 0 or 1.
@@ -66,7 +66,7 @@ pub extern "C" fn fetulombo_symbol_is_definition(
         shndx: shndx,
     };
     match is_definition(symbol, strings) {
-        Definition::Is(is) => truth_answer(is),
-        Definition::Refused(refusal) => no_number(refusal),
+        Ok(is) => truth_answer(is),
+        Err(refusal) => no_number(refusal),
     }
 }

@@ -3,11 +3,11 @@
 ghost use Rattle.std.specs.Prelude.{◌≡◌};
 ghost use Rattle.export_symbols.specs.Symbols.{symbol_count_answer, symbol_answer, symbol_at_answer, symbol_name_answer};
 
-use endian::refusals::UNKNOWN_KIND;
+use endian::refusals::{Refusal, UNKNOWN_KIND};
 use export::answers::{NumberAnswer, PlaceAnswer, no_number, number_answer, place_answer};
 use export::kinds::{are_kinds, class_of, is_kind, order_of, unless_long};
-use strings::StringAt;
-use symbol::table::{SymbolAt, SymbolCount, SymbolIndex};
+use symbol::table::SymbolIndex;
+use symbol_entry::Symbol;
 
 #[repr(C)]
 #[derive(Clone, Copy)]
@@ -29,16 +29,16 @@ pub extern "C" fn fetulombo_symbol_count(class: u8, symbols: &[u8]) -> NumberAns
         return no_number(unless_long(symbols, UNKNOWN_KIND));
     }
     match symbol::table::symbol_count(class_of(class), symbols) {
-        SymbolCount::Symbols(count) => number_answer(count as u64),
-        SymbolCount::Refused(refusal) => no_number(refusal),
+        Ok(count) => number_answer(count as u64),
+        Err(refusal) => no_number(refusal),
     }
 }
 
-fn symbol_answer(found: SymbolAt) -> SymbolAnswer
+fn symbol_answer(found: Result<Symbol, Refusal>) -> SymbolAnswer
     ensures { result ≡ symbol_answer found }
 {
     match found {
-        SymbolAt::At(symbol) => SymbolAnswer {
+        Ok(symbol) => SymbolAnswer {
             refusal: 0,
             name: symbol.name,
             value: symbol.value,
@@ -47,7 +47,7 @@ fn symbol_answer(found: SymbolAt) -> SymbolAnswer
             other: symbol.other,
             shndx: symbol.shndx,
         },
-        SymbolAt::Refused(refusal) => SymbolAnswer {
+        Err(refusal) => SymbolAnswer {
             refusal: refusal.0,
             name: 0,
             value: 0,
@@ -69,7 +69,7 @@ pub extern "C" fn fetulombo_symbol_at(
     ensures { result ≡ symbol_at_answer class order symbols.now index }
 {
     if !are_kinds(class, order) {
-        return symbol_answer(SymbolAt::Refused(unless_long(symbols, UNKNOWN_KIND)));
+        return symbol_answer(Err(unless_long(symbols, UNKNOWN_KIND)));
     }
     symbol_answer(symbol::table::symbol_at(
         class_of(class),
@@ -91,7 +91,7 @@ pub extern "C" fn fetulombo_symbol_name(
 {
     if !are_kinds(class, order) {
         let refusal = unless_long(symbols, unless_long(strings, UNKNOWN_KIND));
-        return place_answer(StringAt::Refused(refusal));
+        return place_answer(Err(refusal));
     }
     place_answer(symbol::table::symbol_name(
         class_of(class),

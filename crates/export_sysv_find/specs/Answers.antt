@@ -1,6 +1,5 @@
 -- The lookup in a SysV table as C gets it: class and order are the numbers that C passes. Assumes nothing.
-use Rattle.std.specs.Prelude.{ℕ}
-use Rattle.lookup.specs.declared.Answer.{Answer}
+use Rattle.std.specs.Prelude.{ℕ, Err}
 use Rattle.lookup.specs.Wanted.{Parts, Asked, all_parts}
 use Rattle.sysv.specs.Find.{sysv_find}
 use Rattle.export.specs.Kinds.{are_kinds, class_of, order_of, unless_unknown}
@@ -10,5 +9,5 @@ use Rattle.export.specs.declared.lookups.LookupAnswer.{LookupAnswer}
 abbrev pub sysv_answer : (class order : ℕ) → Parts → Asked → (hash : ℕ) → LookupAnswer
 sysv_answer class order parts asked hash =
     lookup_answer
-    (unless_unknown Answer.Refused (are_kinds class order) (all_parts parts asked)
+    (unless_unknown Err (are_kinds class order) (all_parts parts asked)
     (sysv_find (class_of class) (order_of order) parts asked hash))

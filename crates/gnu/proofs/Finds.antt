@@ -3,21 +3,20 @@
 --     find_by, find_by_lem    the lookup, by whether a part that is only compared is too long, the symbols and the header
 -- Assumes nothing.
 use Prim.Native.Nat.{ℕ}
-use mathlib.Core.Path.{◌≡◌, refl, sym, ap, ◌∙◌}
+use mathlib.Core.Path.{◌≡◌, refl}
 use mathlib.Core.Bool.{Bool, true, false, cond}
 use mathlib.Core.List.{List, [], ◌∷◌}
 use mathlib.Core.Option.{Option, some, none}
 use lib.Dec.{ltb}
 use lib.ListN.{length}
+use Rattle.std.specs.Prelude.{Result, Ok, Err}
 use Rattle.endian.specs.declared.kinds.Class.{Class}
 use Rattle.endian.specs.declared.kinds.Order.{Order}
 use Rattle.endian.specs.declared.refusals.Refusal.{Refusal}
 use Rattle.endian.specs.Refusals.{limit, any_long, too_long, unless_refused}
-use Rattle.symbol.specs.declared.table.SymbolCount.{SymbolCount}
 use Rattle.symbol.specs.Table.{symbols_in, symbol_count}
-use Rattle.lookup.specs.declared.Answer.{Answer}
+use Rattle.lookup.specs.declared.Lookup.{Lookup}
 use Rattle.lookup.specs.Wanted.{Parts, Asked, wanted}
-use Rattle.gnu_table.specs.declared.header.HeaderAt.{HeaderAt}
 use Rattle.gnu_table.specs.declared.header.Layout.{Layout}
 use Rattle.gnu_table.specs.Table.{bloom_first, bloom_second, bloom_filter}
 use Rattle.gnu_table.specs.Header.{gnu_fault, layout_of, gnu_header}
@@ -30,17 +29,18 @@ pub filter_any : (class : Class) (order : Order) (table : List ℕ) (layout : La
 unfolding bloom_filter bloom_first bloom_second
 filter_any class order table layout count h = refl
 
-abbrev pub find_by : (rest_long : Bool) → SymbolCount → HeaderAt → (Layout → ℕ → Answer) → Answer
-find_by true counted header look = Answer.Refused too_long
-find_by false (SymbolCount.Refused r) header look = Answer.Refused too_long
-find_by false (SymbolCount.Symbols n) (HeaderAt.Refused r) look = Answer.Refused r
-find_by false (SymbolCount.Symbols n) (HeaderAt.At layout) look = look layout n
+abbrev pub find_by : (rest_long : Bool) → Result ℕ Refusal → Result Layout Refusal → (Layout → ℕ → Result Lookup Refusal)
+    → Result Lookup Refusal
+find_by true counted header look = Err too_long
+find_by false (Err r) header look = Err r
+find_by false (Ok n) (Err r) look = Err r
+find_by false (Ok n) (Ok layout) look = look layout n
 
 -- the parts may be tested in any order, for each is refused alike
-any_order : (table_long symbols_long rest_long : Bool) (o : Option Refusal) (n : ℕ) (layout : Layout) (look : Layout → ℕ → Answer)
-    → cond (cond table_long true (cond symbols_long true rest_long)) (Answer.Refused too_long) (unless_refused Answer.Refused o (look layout n))
-    ≡ find_by rest_long (cond symbols_long (SymbolCount.Refused too_long) (SymbolCount.Symbols n))
-    (cond table_long (HeaderAt.Refused too_long) (unless_refused HeaderAt.Refused o (HeaderAt.At layout))) look
+any_order : (table_long symbols_long rest_long : Bool) (o : Option Refusal) (n : ℕ) (layout : Layout) (look : Layout → ℕ → Result Lookup Refusal)
+    → cond (cond table_long true (cond symbols_long true rest_long)) (Err too_long) (unless_refused Err o (look layout n))
+    ≡ find_by rest_long (cond symbols_long (Err too_long) (Ok n))
+    (cond table_long (Err too_long) (unless_refused Err o (Ok layout))) look
 any_order true true true o n layout look = refl
 any_order true true false o n layout look = refl
 any_order true false true o n layout look = refl
@@ -52,23 +52,15 @@ any_order false false false none n layout look = refl
 any_order false false false (some r) n layout look = refl
 
 module _ (class : Class) (order : Order) (p : Parts) (asked : Asked) (hash : ℕ) where
-  abbrev pub look_in : Layout → ℕ → Answer
+  abbrev pub look_in : Layout → ℕ → Result Lookup Refusal
   look_in layout n = gnu_lookup (table_at class order p.table layout n) hash (wanted class order p asked)
 
-  abbrev rest : List (List ℕ)
+  abbrev pub rest : List (List ℕ)
   rest = p.strings ∷ p.versyms ∷ p.version_strings ∷ asked.name ∷ asked.need_name ∷ []
 
-  by_parts : gnu_find class order p asked hash
+  pub find_by_lem : gnu_find class order p asked hash
       ≡ find_by (any_long rest) (symbol_count class p.symbols) (gnu_header class order p.table) look_in
   unfolding gnu_find gnu_header gnu_lookup bloom_filter bloom_first bloom_second start_of
-  by_parts =
+  find_by_lem =
       any_order (ltb limit (length p.table)) (ltb limit (length p.symbols)) (any_long rest) (gnu_fault class order p.table)
       (symbols_in class p.symbols) (layout_of class order p.table) look_in
-
-  pub find_by_lem : (rest_long : Bool) (counted : SymbolCount) (header : HeaderAt)
-      → rest_long ≡ any_long (p.strings ∷ p.versyms ∷ p.version_strings ∷ asked.name ∷ asked.need_name ∷ [])
-      → counted ≡ symbol_count class p.symbols → header ≡ gnu_header class order p.table
-      → find_by rest_long counted header look_in ≡ gnu_find class order p asked hash
-  find_by_lem rest_long counted header e f g =
-      ap (λ b. find_by b counted header look_in) e ∙ ap (λ (n : SymbolCount). find_by (any_long rest) n header look_in) f
-      ∙ ap (λ (h : HeaderAt). find_by (any_long rest) (symbol_count class p.symbols) h look_in) g ∙ sym by_parts

@@ -8,11 +8,10 @@ use mathlib.Core.Path.{◌≡◌, sym}
 use mathlib.Core.Bool.{Bool, true, false, not, ◌&&◌, and-false}
 use lib.Dec.{leb, eqb}
 use borrow.Author.Tests.{eqb-true, leb-true, eq-eqb, ne_eqb, le-leb, lt-leb}
-use Rattle.endian.specs.Refusals.{bad_bloom_shift}
-use Rattle.lookup.specs.declared.Answer.TheVariants.{Missing, Refused}
-use Rattle.lookup.specs.Wanted.{walk}
+use Rattle.std.specs.Prelude.{Ok, Err}
+use Rattle.endian.specs.declared.refusals.Refusal.{Refusal}
+use Rattle.lookup.specs.Wanted.{missing, walk}
 use Rattle.lookup.proofs.Picking.{by-test, and_left, and_right}
-use Rattle.gnu_table.specs.declared.filter.Bloom.TheVariants.{Passes, Stops, Refuses}
 use Rattle.gnu_table.specs.Table.{GnuTable, bloom_filter, value_of, same_but_low}
 use Rattle.gnu.specs.Lookup.{starts, start_of, gnu_chain, gnu_lookup}
 
@@ -64,19 +63,19 @@ module _ (t : GnuTable) (h : ℕ) where
       (λ s. rw (e, s) (starts_range (t.bucket (h % t.bucket_count)) s)) (λ s. absurd (apart (rw (e, s)))))
 
   module _ (wanted : ℕ → Bool) where
-    pub lookup_stops : bloom_filter t h ≡ Stops → gnu_lookup t h wanted ≡ Missing 0
+    pub lookup_stops : bloom_filter t h ≡ Ok false → gnu_lookup t h wanted ≡ Ok (missing 0)
     unfolding gnu_lookup
     lookup_stops e = rw e
 
-    pub lookup_refuses : bloom_filter t h ≡ Refuses → gnu_lookup t h wanted ≡ Refused bad_bloom_shift
+    pub lookup_refuses : (r : Refusal) → bloom_filter t h ≡ Err r → gnu_lookup t h wanted ≡ Err r
     unfolding gnu_lookup
-    lookup_refuses e = rw e
+    lookup_refuses r e = rw e
 
-    pub lookup_nowhere : bloom_filter t h ≡ Passes → start_of t h ≡ 0 → gnu_lookup t h wanted ≡ Missing 0
+    pub lookup_nowhere : bloom_filter t h ≡ Ok true → start_of t h ≡ 0 → gnu_lookup t h wanted ≡ Ok (missing 0)
     unfolding gnu_lookup
     lookup_nowhere e none_there = rw (e, none_there)
 
-    pub lookup_walks : bloom_filter t h ≡ Passes → (v : ℕ) → start_of t h ≡ v → (v ≡ 0 → ⊥)
-        → gnu_lookup t h wanted ≡ walk (λ i. same_but_low (value_of t i) h && wanted i) (gnu_chain t v)
+    pub lookup_walks : bloom_filter t h ≡ Ok true → (v : ℕ) → start_of t h ≡ v → (v ≡ 0 → ⊥)
+        → gnu_lookup t h wanted ≡ Ok (walk (λ i. same_but_low (value_of t i) h && wanted i) (gnu_chain t v))
     unfolding gnu_lookup
     lookup_walks e v start apart = rw (e, start, ne_eqb v 0 apart)

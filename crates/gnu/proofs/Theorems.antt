@@ -4,49 +4,52 @@
 --                                           last sentence)
 -- Assumes nothing.
 use Prim.Native.Nat.{ℕ}
-use mathlib.Core.Path.{◌≡◌}
+use mathlib.Core.Path.{◌≡◌, ap}
 use mathlib.Core.Bool.{Bool, true, false, cond, ◌&&◌}
 use mathlib.Core.Option.{Option, some, none}
 use lib.Dec.{eqb}
 use Rattle.symbol.specs.Table.{symbol_index}
+use Rattle.std.specs.Prelude.{Result, Ok, Err}
 use Rattle.endian.specs.declared.kinds.Class.{Class}
 use Rattle.endian.specs.declared.kinds.Order.{Order}
 use Rattle.endian.specs.declared.refusals.Refusal.{Refusal}
 use Rattle.endian.specs.Refusals.{any_long, too_long, unless_refused}
 use Rattle.version_match.specs.Match.{matching}
-use Rattle.lookup.specs.declared.Answer.{Answer}
-use Rattle.lookup.specs.declared.Answer.TheVariants.{Found, Missing, Refused}
+use Rattle.lookup.specs.declared.Lookup.{Lookup}
 use Rattle.lookup.specs.Matches.{OneAsked}
-use Rattle.lookup.specs.Wanted.{Parts, Asked, all_parts, name_of, wanted}
+use Rattle.lookup.specs.Wanted.{Parts, Asked, all_parts, name_of, wanted, found as found_at, missing}
 use Rattle.lookup.proofs.Picking.{and_right}
 use Rattle.lookup.proofs.Distinct.{wanted_named, wanted_fits, wanted_one, walk_wanted}
-use Rattle.gnu_table.specs.declared.filter.Bloom.{Bloom}
-use Rattle.gnu_table.specs.declared.filter.Bloom.TheVariants.{Passes, Stops, Refuses}
 use Rattle.gnu_table.specs.Table.{GnuTable, value_of, same_but_low, bloom_filter}
 use Rattle.gnu_table.specs.Header.{gnu_fault}
 use Rattle.gnu.specs.Lookup.{gnu_chain, start_of, filtered, gnu_lookup}
 use Rattle.gnu.specs.Find.{gnu_table, gnu_find}
 
 module _ (i probes : ℕ) where
-  past_filter : (f : Bloom) (a : Answer) → filtered f a ≡ Found (symbol_index i) probes → a ≡ Found (symbol_index i) probes
-  past_filter Stops a h = cc
-  past_filter Refuses a h = cc
-  past_filter Passes a h = h
+  abbrev here : Lookup
+  here = found_at (symbol_index i) probes
 
-  past_missing : (b : Bool) (n : ℕ) (a : Answer) → cond b (Missing n) a ≡ Found (symbol_index i) probes
-      → a ≡ Found (symbol_index i) probes
-  past_missing true n a h = cc
+  not_missing : (n : ℕ) (a : Lookup) → missing n ≡ here → a ≡ here
+  not_missing n a h = let symbols = ap (λ l. l.symbol) h in cc
+
+  past_filter : (f : Result Bool Refusal) (a : Lookup) → filtered f a ≡ Ok here → a ≡ here
+  past_filter (Ok false) a h = let z : missing 0 ≡ here = cc in not_missing 0 a z
+  past_filter (Err r) a h = cc
+  past_filter (Ok true) a h = cc
+
+  past_missing : (b : Bool) (n : ℕ) (a : Lookup) → cond b (missing n) a ≡ here → a ≡ here
+  past_missing true n a h = not_missing n a h
   past_missing false n a h = h
 
-  past_long : (b : Bool) (a : Answer) → cond b (Refused too_long) a ≡ Found (symbol_index i) probes → a ≡ Found (symbol_index i) probes
+  past_long : (b : Bool) (a : Result Lookup Refusal) → cond b (Err too_long) a ≡ Ok here → a ≡ Ok here
   past_long true a h = cc
   past_long false a h = h
 
-  past_fault : (o : Option Refusal) (a : Answer) → unless_refused Refused o a ≡ Found (symbol_index i) probes → a ≡ Found (symbol_index i) probes
+  past_fault : (o : Option Refusal) (a : Result Lookup Refusal) → unless_refused Err o a ≡ Ok here → a ≡ Ok here
   past_fault none a h = h
   past_fault (some r) a h = cc
 
-  lookup_wanted : (t : GnuTable) (h : ℕ) (match : ℕ → Bool) → gnu_lookup t h match ≡ Found (symbol_index i) probes → match i ≡ true
+  lookup_wanted : (t : GnuTable) (h : ℕ) (match : ℕ → Bool) → gnu_lookup t h match ≡ Ok here → match i ≡ true
   unfolding gnu_lookup
   lookup_wanted t h match e =
       let tested : ℕ → Bool = λ j. same_but_low (value_of t j) h && match j in
@@ -55,7 +58,7 @@ module _ (i probes : ℕ) where
       and_right (same_but_low (value_of t i) h) (match i) (walk_wanted tested (gnu_chain t s) i probes walked)
 
 module _ (class : Class) (order : Order) (p : Parts) where
-  module _ (asked : Asked) (hash i probes : ℕ) (found : gnu_find class order p asked hash ≡ Found (symbol_index i) probes) where
+  module _ (asked : Asked) (hash i probes : ℕ) (found : gnu_find class order p asked hash ≡ Ok (found_at (symbol_index i) probes)) where
     pub find_wanted : wanted class order p asked i ≡ true
     unfolding gnu_find
     find_wanted =

@@ -13,27 +13,26 @@ use native.Mathlib.Nat.{zero-add, add-zero, sub_self}
 use native.Mathlib.Omega.{arith}
 use lib.ListN.{length}
 use Rattle.symbol.specs.Table.{symbol_index}
-use Rattle.lookup.specs.declared.Answer.{Answer}
-use Rattle.lookup.specs.declared.Answer.TheVariants.{Found, Missing}
+use Rattle.lookup.specs.declared.Lookup.{Lookup}
 use Rattle.lookup.specs.Pick.{from, first_of, up_to}
-use Rattle.lookup.specs.Wanted.{answer_after, walk}
+use Rattle.lookup.specs.Wanted.{found, missing, answer_after, walk}
 use Rattle.lookup.proofs.Picking.{from_cons}
 
 module _ (match ends : ℕ → Bool) where
-  abbrev pub walk_from : ℕ → List ℕ → Answer
+  abbrev pub walk_from : ℕ → List ℕ → Lookup
   walk_from n xs = answer_after (first_of match (up_to ends xs)) (n + length (up_to match (up_to ends xs)))
 
   pub walk_from_start : (xs : List ℕ) → walk_from 0 xs ≡ walk match (up_to ends xs)
   walk_from_start xs = ap (answer_after (first_of match (up_to ends xs))) (zero-add (length (up_to match (up_to ends xs))))
 
-  pub walk_from_none : (n e : ℕ) → walk_from n (from e (e - e)) ≡ Missing n
+  pub walk_from_none : (n e : ℕ) → walk_from n (from e (e - e)) ≡ missing n
   walk_from_none n e = rw (sub_self, add-zero)
 
   module _ (n i e : ℕ) (more : i < e) where
-    pub walk_from_match : match i ≡ true → walk_from n (from i (e - i)) ≡ Found (symbol_index i) (n + 1)
+    pub walk_from_match : match i ≡ true → walk_from n (from i (e - i)) ≡ found (symbol_index i) (n + 1)
     walk_from_match m = rw (from_cons i e more, m)
 
-    pub walk_from_end : match i ≡ false → ends i ≡ true → walk_from n (from i (e - i)) ≡ Missing (n + 1)
+    pub walk_from_end : match i ≡ false → ends i ≡ true → walk_from n (from i (e - i)) ≡ missing (n + 1)
     walk_from_end m l = rw (from_cons i e more, m, l)
 
     pub walk_from_on : match i ≡ false → ends i ≡ false

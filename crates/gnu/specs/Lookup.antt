@@ -4,14 +4,11 @@
 --     walk_at             the walk from there
 --     gnu_lookup          what a lookup gives
 -- Assumes nothing.
-use Rattle.std.specs.Prelude.{ℕ, ◌-◌, ◌%◌, min, Bool, cond, not, ◌&&◌, List, leb, eqb}
-use Rattle.endian.specs.Refusals.{bad_bloom_shift}
-use Rattle.lookup.specs.declared.Answer.{Answer}
-use Rattle.lookup.specs.declared.Answer.TheVariants.{Missing, Refused}
+use Rattle.std.specs.Prelude.{ℕ, ◌-◌, ◌%◌, min, Bool, true, false, cond, not, ◌&&◌, List, leb, eqb, Result, Ok, Err}
+use Rattle.endian.specs.declared.refusals.Refusal.{Refusal}
+use Rattle.lookup.specs.declared.Lookup.{Lookup}
 use Rattle.lookup.specs.Pick.{from, up_to}
-use Rattle.lookup.specs.Wanted.{walk}
-use Rattle.gnu_table.specs.declared.filter.Bloom.{Bloom}
-use Rattle.gnu_table.specs.declared.filter.Bloom.TheVariants.{Passes, Stops, Refuses}
+use Rattle.lookup.specs.Wanted.{missing, walk}
 use Rattle.gnu_table.specs.Table.{GnuTable, odd, same_but_low, value_of, bloom_filter}
 
 module _ (t : GnuTable) where
@@ -34,14 +31,14 @@ start_of t h =
     (cond (starts t (t.bucket (h % t.bucket_count))) (t.bucket (h % t.bucket_count)) 0)
 
 -- the walk from a symbol on, or nothing from 0; `wanted i`: symbol i has the name and the version that are asked for
-abbrev pub walk_at : GnuTable → ℕ → (ℕ → Bool) → ℕ → Answer
-walk_at t h wanted s = cond (eqb s 0) (Missing 0) (walk (λ i. same_but_low (value_of t i) h && wanted i) (gnu_chain t s))
+abbrev pub walk_at : GnuTable → ℕ → (ℕ → Bool) → ℕ → Lookup
+walk_at t h wanted s = cond (eqb s 0) (missing 0) (walk (λ i. same_but_low (value_of t i) h && wanted i) (gnu_chain t s))
 
-abbrev pub filtered : Bloom → Answer → Answer
-filtered Stops answer = Missing 0
-filtered Refuses answer = Refused bad_bloom_shift
-filtered Passes answer = answer
+abbrev pub filtered : Result Bool Refusal → Lookup → Result Lookup Refusal
+filtered (Ok false) answer = Ok (missing 0)
+filtered (Err r) answer = Err r
+filtered (Ok true) answer = Ok answer
 
 -- the lookup of a hash
-unfoldable pub gnu_lookup : GnuTable → ℕ → (ℕ → Bool) → Answer
+unfoldable pub gnu_lookup : GnuTable → ℕ → (ℕ → Bool) → Result Lookup Refusal
 gnu_lookup t h wanted = filtered (bloom_filter t h) (walk_at t h wanted (start_of t h))

@@ -6,7 +6,7 @@
 use Rattle.std.specs.Prelude.{ℕ, ◌-◌, Bool, ◌&&◌}
 use Rattle.endian.specs.declared.kinds.Class.{Class}
 use Rattle.endian.specs.declared.kinds.Order.{Order}
-use Rattle.lookup.specs.declared.Answer.{Answer}
+use Rattle.lookup.specs.declared.Lookup.{Lookup}
 use Rattle.lookup.specs.Pick.{from, up_to}
 use Rattle.lookup.specs.Wanted.{Parts, Asked, wanted, walk}
 use Rattle.gnu_table.specs.Table.{same_but_low}
@@ -16,7 +16,7 @@ abbrev pub pair_matches : Class → Order → Parts → Asked → (hash values_a
 pair_matches class order p asked hash values_at base i =
     same_but_low (value_at order p.table values_at base i) hash && wanted class order p asked i
 
-unfoldable pub walk_pairs : Class → Order → Parts → Asked → (hash values_at base start end : ℕ) → Answer
+unfoldable pub walk_pairs : Class → Order → Parts → Asked → (hash values_at base start end : ℕ) → Lookup
 walk_pairs class order p asked hash values_at base start end =
     walk (pair_matches class order p asked hash values_at base)
     (up_to (pair_ends order p.table values_at base) (from start (end - start)))

@@ -9,11 +9,11 @@ ghost use Rattle.gnu.specs.Find.{gnu_find};
 use super::start::start_of;
 use super::walk::walk;
 use endian::kinds::{Class, Order};
-use endian::refusals::{BAD_BLOOM_SHIFT, LIMIT, TOO_LONG};
-use gnu_table::filter::{Bloom, bloom_filter};
-use gnu_table::header::{HeaderAt, Layout, header};
-use lookup::{Answer, smaller};
-use symbol::table::{SymbolCount, symbol_count};
+use endian::refusals::{LIMIT, Refusal, TOO_LONG};
+use gnu_table::filter::bloom_filter;
+use gnu_table::header::{Layout, header};
+use lookup::{Lookup, smaller};
+use symbol::table::symbol_count;
 use version_match::Need;
 
 // Whether one of the parts that are only compared is too long.
@@ -59,7 +59,7 @@ fn lookup_at(
     need_name: &[u8],
     layout: Layout,
     count: u32,
-) -> Answer
+) -> Result<Lookup, Refusal>
     ensures { result
         ≡ gnu_lookup (table_at class order table.entry.now layout count) hash
         (wanted class order
@@ -73,41 +73,43 @@ fn lookup_at(
         })
         (record { name = name.entry.now; need = need; need_name = need_name.now })) }
 {
-    match bloom_filter(class, order, table, layout, hash) {
-        Bloom::Stops => Answer::Missing(0),
-        Bloom::Refuses => Answer::Refused(BAD_BLOOM_SHIFT),
-        Bloom::Passes => {
-            let start = start_of(class, order, table, layout, count, hash);
-            if start == 0 {
-                return Answer::Missing(0);
-            }
-            let base = layout.symbol_base;
-            let end = start + smaller(count - start, layout.value_count - (start - base));
-            walk(
-                class,
-                order,
-                table,
-                symbols,
-                strings,
-                versyms,
-                store,
-                version_strings,
-                name,
-                hash,
-                need,
-                need_name,
-                layout.values_at,
-                base,
-                start,
-                end,
-            )
-        }
+    let nothing = Lookup {
+        symbol: None,
+        probes: 0,
+    };
+    if !bloom_filter(class, order, table, layout, hash)? {
+        return Ok(nothing);
     }
+    let start = start_of(class, order, table, layout, count, hash);
+    if start == 0 {
+        return Ok(nothing);
+    }
+    let base = layout.symbol_base;
+    let end = start + smaller(count - start, layout.value_count - (start - base));
+    Ok(walk(
+        class,
+        order,
+        table,
+        symbols,
+        strings,
+        versyms,
+        store,
+        version_strings,
+        name,
+        hash,
+        need,
+        need_name,
+        layout.values_at,
+        base,
+        start,
+        end,
+    ))
 }
 
 // The symbol that a name binds to, with its hash and the version that is needed: found with the
 // probes made, or none with them. Refused in this order: a part or a name that is too long; as
 // `gnu_table::header::header`; a bloom_shift above 31, where the second bit of the bloom filter is reached.
+#[tactic(auto, using(crate::proofs::Finds::find_by_lem))]
 pub fn find(
     class: Class,
     order: Order,
@@ -121,7 +123,7 @@ pub fn find(
     hash: u32,
     need: Need,
     need_name: &[u8],
-) -> Answer
+) -> Result<Lookup, Refusal>
     ensures { result
         ≡ gnu_find class order
         (record {
@@ -136,29 +138,24 @@ pub fn find(
         hash }
 {
     if any_long(strings, versyms, version_strings, name, need_name) {
-        return Answer::Refused(TOO_LONG);
+        return Err(TOO_LONG);
     }
-    let counted = symbol_count(class, symbols);
-    let SymbolCount::Symbols(count) = counted else {
-        return Answer::Refused(TOO_LONG);
-    };
-    match header(class, order, table) {
-        HeaderAt::At(layout) => lookup_at(
-            class,
-            order,
-            table,
-            symbols,
-            strings,
-            versyms,
-            store,
-            version_strings,
-            name,
-            hash,
-            need,
-            need_name,
-            layout,
-            count,
-        ),
-        HeaderAt::Refused(refusal) => Answer::Refused(refusal),
-    }
+    let count = symbol_count(class, symbols)?;
+    let layout = header(class, order, table)?;
+    lookup_at(
+        class,
+        order,
+        table,
+        symbols,
+        strings,
+        versyms,
+        store,
+        version_strings,
+        name,
+        hash,
+        need,
+        need_name,
+        layout,
+        count,
+    )
 }

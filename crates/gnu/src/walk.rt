@@ -4,7 +4,7 @@ ghost use Rattle.gnu.specs.Walk.{walk_pairs};
 
 use endian::kinds::{Class, Order};
 use gnu_table::words::word_of;
-use lookup::{Answer, is_wanted};
+use lookup::{Lookup, is_wanted};
 use symbol::table::SymbolIndex;
 use version_match::Need;
 
@@ -28,7 +28,7 @@ pub(crate) fn walk(
     base: u32,
     start: u32,
     end: u32,
-) -> Answer
+) -> Lookup
     requires { (base ≤ start) × (start ≤ end) }
     ensures { result
         ≡ walk_pairs class order
@@ -43,12 +43,8 @@ pub(crate) fn walk(
         (record { name = name.entry.now; need = need; need_name = need_name.now })
         hash values_at base start end }
 {
-    let mut i = start;
     let mut probes: usize = 0;
-    loop {
-        if i == end {
-            break Answer::Missing(probes);
-        }
+    for i in start..end {
         probes += 1;
         let value = word_of(order, table, values_at, i - base);
         if value / 2 == hash / 2
@@ -66,11 +62,17 @@ pub(crate) fn walk(
                 need_name,
             )
         {
-            break Answer::Found(SymbolIndex(i), probes);
+            return Lookup {
+                symbol: Some(SymbolIndex(i)),
+                probes,
+            };
         }
         if value % 2 == 1 {
-            break Answer::Missing(probes);
+            break;
         }
-        i += 1;
+    }
+    Lookup {
+        symbol: None,
+        probes,
     }
 }

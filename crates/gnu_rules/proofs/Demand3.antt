@@ -9,6 +9,7 @@ use mathlib.Core.Option.{Option, some, none}
 use native.Mathlib.Omega.{arith}
 use lib.Dec.{ltb, eqb}
 use lib.ListN.{length}
+use Rattle.std.specs.Prelude.{Result, Ok, Err}
 use Rattle.endian.specs.declared.kinds.Class.{Class}
 use Rattle.endian.specs.declared.kinds.Order.{Order}
 use Rattle.endian.specs.declared.refusals.Refusal.{Refusal}
@@ -17,14 +18,12 @@ use Rattle.strings.proofs.Meaning.{same_refl}
 use Rattle.name_hash.specs.Hash.{gnu_hash}
 use Rattle.symbol.specs.declared.table.SymbolIndex.{SymbolIndex}
 use Rattle.symbol.specs.Table.{symbols_in, symbol_index}
-use Rattle.lookup.specs.declared.Answer.TheVariants.{Found, Missing, Refused}
+use Rattle.lookup.specs.declared.Lookup.{Lookup}
 use Rattle.lookup.specs.Matches.{Matches}
 use Rattle.lookup.specs.Pick.{from, first_of, up_to}
-use Rattle.lookup.specs.Wanted.{Parts, Asked, wanted, wanted_in, answer_after}
+use Rattle.lookup.specs.Wanted.{Parts, Asked, wanted, wanted_in, found as found_at, missing as missing_at, answer_after}
 use Rattle.lookup.proofs.Distinct.{wanted_named, wanted_fits}
 use Rattle.lookup.proofs.Picking.{from_all, none_first_of, first_of_lowest, Lowest, by-test}
-use Rattle.gnu_table.specs.declared.filter.Bloom.{Bloom}
-use Rattle.gnu_table.specs.declared.filter.Bloom.TheVariants.{Passes, Stops, Refuses}
 use Rattle.gnu_table.specs.Table.{GnuTable, hashed, value_of, same_but_low, bloom_filter}
 use Rattle.gnu_table.specs.Header.{gnu_fault}
 use Rattle.gnu.specs.Lookup.{gnu_chain, start_of, walk_at, filtered, gnu_lookup}
@@ -37,22 +36,29 @@ use Rattle.gnu_rules.proofs.Kept.{rules, accepted_longest}
 use Rattle.gnu_rules.proofs.Finds.{finds_lowest}
 
 -- answers of two kinds are never the same
-found_refused : (symbol : SymbolIndex) (probes : ℕ) (r : Refusal) → ¬ (Found symbol probes ≡ Refused r)
+found_refused : (symbol : SymbolIndex) (probes : ℕ) (r : Refusal) → ¬ (Ok (found_at symbol probes) ≡ Err r)
 found_refused symbol probes r h = let z : ◌≡◌ {A = ℕ} 0 1 = cc in omega arith
 
-found_missing : (symbol : SymbolIndex) (probes probes' : ℕ) → ¬ (Found symbol probes ≡ Missing probes')
-found_missing symbol probes probes' h = let z : ◌≡◌ {A = ℕ} 0 1 = cc in omega arith
+found_missing : (symbol : SymbolIndex) (probes probes' : ℕ) → ¬ (◌≡◌ {A = Result Lookup Refusal} (Ok (found_at symbol probes)) (Ok (missing_at probes')))
+found_missing symbol probes probes' h =
+    let e : found_at symbol probes ≡ missing_at probes' = cc in
+    let symbols = ap (λ l. l.symbol) e in
+    let z : ◌≡◌ {A = ℕ} 0 1 = cc in omega arith
 
-missing_refused : (probes : ℕ) (r : Refusal) → ¬ (Missing probes ≡ Refused r)
+missing_refused : (probes : ℕ) (r : Refusal) → ¬ (Ok (missing_at probes) ≡ Err r)
 missing_refused probes r h = let z : ◌≡◌ {A = ℕ} 0 1 = cc in omega arith
 
 refused_accepted : (r : Refusal) (most : ℕ) → ¬ (Checked-as-Refused r ≡ Accepted most)
 refused_accepted r most h = let z : ◌≡◌ {A = ℕ} 0 1 = cc in omega arith
 
-found_symbol : (i k probes probes' : ℕ) → Found (symbol_index i) probes ≡ Found (symbol_index k) probes' → i ≡ k
-found_symbol i k probes probes' h = let z : symbol_index i ≡ symbol_index k = cc in ap (λ (x : SymbolIndex). x.0) z
+found_symbol : (i k probes probes' : ℕ) → ◌≡◌ {A = Result Lookup Refusal} (Ok (found_at (symbol_index i) probes)) (Ok (found_at (symbol_index k) probes')) → i ≡ k
+found_symbol i k probes probes' h =
+    let e : found_at (symbol_index i) probes ≡ found_at (symbol_index k) probes' = cc in
+    let symbols = ap (λ l. l.symbol) e in
+    let z : symbol_index i ≡ symbol_index k = cc in
+    ap (λ (x : SymbolIndex). x.0) z
 
-probes_after : (o : Option ℕ) (probes : ℕ) → probes_of (answer_after o probes) ≡ probes
+probes_after : (o : Option ℕ) (probes : ℕ) → probes_of (Ok (answer_after o probes)) ≡ probes
 probes_after none probes = refl
 probes_after (some i) probes = refl
 
@@ -107,23 +113,23 @@ module _ (class : Class) (order : Order) (p : Parts) (asked : Asked) where
       pairs : List ℕ
       pairs = gnu_chain t (start_of t h)
 
-      by : (f : Bloom) → probes_of (filtered f (walk_at t h want (start_of t h)))
+      by : (f : Result Bool Refusal) → probes_of (filtered f (walk_at t h want (start_of t h)))
           ≡ length (pairs_read f (start_of t h) (up_to tested pairs))
-      by Stops = refl
-      by Refuses = refl
-      by Passes =
+      by (Ok false) = refl
+      by (Err r) = refl
+      by (Ok true) =
           by-test (eqb (start_of t h) 0) (λ e. rw e)
           (λ e. rw e (probes_after (first_of tested pairs) (length (up_to tested pairs))))
 
   module _ (most probes : ℕ) (few : probes ≤ most) (counted : probes ≡ length (walked class order p asked)) where
     found_lowest : (i : ℕ) → LowestMatch class order p asked i
-        → Demand3 class order p asked most (Found (symbol_index i) probes)
+        → Demand3 class order p asked most (Ok (found_at (symbol_index i) probes))
     found_lowest i here =
         record {
           not_refused = λ r. found_refused _ _ r;
           found = λ k. (
             (λ h. subst (LowestMatch class order p asked) (found_symbol i k probes probes h) here),
-            λ l. ap (λ j. Found (symbol_index j) probes) (lowest_one i k here l),
+            λ l. ap (λ j. Ok (found_at (symbol_index j) probes)) (lowest_one i k here l),
           );
           missing = (
             (λ h. absurd (found_missing _ _ _ h)),
@@ -134,7 +140,7 @@ module _ (class : Class) (order : Order) (p : Parts) (asked : Asked) where
         }
 
     found_none : ((k : ℕ) → base ≤ k → k < count → ¬ Matches class order p asked k)
-        → Demand3 class order p asked most (Missing probes)
+        → Demand3 class order p asked most (Ok (missing_at probes))
     found_none nothing =
         record {
           not_refused = λ r. missing_refused _ r;
@@ -149,7 +155,7 @@ module _ (class : Class) (order : Order) (p : Parts) (asked : Asked) where
 
     -- an answer by the first wanted symbol
     by_first : base ≤ count → (o : Option ℕ) → first_of want (from base (count - base)) ≡ o
-        → Demand3 class order p asked most (answer_after o probes)
+        → Demand3 class order p asked most (Ok (answer_after o probes))
     by_first within none e =
         found_none
         (λ k lo hi. not_wanted k

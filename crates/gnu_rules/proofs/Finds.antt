@@ -11,11 +11,12 @@ use native.Mathlib.Omega.{arith}
 use native.Mathlib.Nat.{mod-lt}
 use lib.ListN.{length}
 use borrow.Author.Tests.{eqb-true, eq-eqb, ne_eqb, le-leb, le-ltb}
+use Rattle.std.specs.Prelude.{Result, Ok}
+use Rattle.endian.specs.declared.refusals.Refusal.{Refusal}
 use Rattle.name_hash.specs.Hash.{gnu_hash}
-use Rattle.lookup.specs.declared.Answer.{Answer}
-use Rattle.lookup.specs.declared.Answer.TheVariants.{Missing}
+use Rattle.lookup.specs.declared.Lookup.{Lookup}
 use Rattle.lookup.specs.Pick.{from, first_of, up_to}
-use Rattle.lookup.specs.Wanted.{answer_after, walk}
+use Rattle.lookup.specs.Wanted.{missing, answer_after, walk}
 use Rattle.lookup.proofs.Picking.{all_map, all_from, all-select, first_of_none, first_of_select, first_of_cong, length_up_to, up_to_from, largest-le, by-test, and_left, and_right, beq_eq, test_ext}
 use Rattle.gnu_table.specs.Table.{GnuTable, hashed, value_of, odd, same_but_low, bloom_first, bloom_second, bloom_filter}
 use Rattle.gnu.specs.Lookup.{gnu_chain, starts, start_of, walk_at, gnu_lookup}
@@ -24,9 +25,9 @@ use Rattle.gnu_rules.proofs.Kept.{Rules}
 use Rattle.gnu_rules.proofs.Members.{holds_run, inside, last, not_last}
 
 -- the lookup answers the first wanted symbol of the hashed ones, after few probes
-pub record FindsLowest (t : GnuTable) (wanted : ℕ → Bool) (a : Answer) : Type 0 where
+pub record FindsLowest (t : GnuTable) (wanted : ℕ → Bool) (a : Result Lookup Refusal) : Type 0 where
   pub probes : ℕ
-  pub answer : a ≡ answer_after (first_of wanted (hashed t)) probes
+  pub answer : a ≡ Ok (answer_after (first_of wanted (hashed t)) probes)
   pub few : probes ≤ longest t
 
 module _ (t : GnuTable) (r : Rules t) where
@@ -90,17 +91,17 @@ module _ (t : GnuTable) (r : Rules t) where
         test_ext (tested i) (wanted i) (and_right (same_but_low (value_of t i) (gnu_hash name)) (wanted i))
         (λ h. let e : same_but_low (value_of t i) (gnu_hash name) ≡ true = rw (hash_is i h) at (r.valued i lo hi) in rw e h)
 
-    nothing : first_of wanted (hashed t) ≡ none → FindsLowest t wanted (Missing 0)
+    nothing : first_of wanted (hashed t) ≡ none → FindsLowest t wanted (Ok (missing 0))
     nothing h = record { probes = 0; answer = rw h; few = omega arith }
 
     walk_is : (b : ℕ) → b < t.bucket_count → first_of wanted (members t b) ≡ first_of wanted (hashed t)
-        → FindsLowest t wanted (walk tested (members t b))
+        → FindsLowest t wanted (Ok (walk tested (members t b)))
     unfolding longest
     walk_is b hb same =
         record {
           probes = length (up_to tested (members t b));
           answer =
-              ap (λ o. answer_after o (length (up_to tested (members t b))))
+              ap (λ o. Ok (answer_after o (length (up_to tested (members t b)))))
               (first_of_cong tested wanted (members t b)
               (all_map (λ i h. h.0) (members t b)
               (all-select (in_bucket t b) (λ i. tested i ≡ wanted i) (hashed t)
@@ -112,7 +113,7 @@ module _ (t : GnuTable) (r : Rules t) where
         }
 
     -- by what the bucket of the hash has
-    bucket_is : FindsLowest t wanted (walk_at t (gnu_hash name) wanted (start_of t (gnu_hash name)))
+    bucket_is : FindsLowest t wanted (Ok (walk_at t (gnu_hash name) wanted (start_of t (gnu_hash name))))
     unfolding start_of
     bucket_is =
         let buckets = r.buckets in
@@ -125,7 +126,7 @@ module _ (t : GnuTable) (r : Rules t) where
         b_low = mod-lt (gnu_hash name) r.buckets
 
         go : (ms : List ℕ) → members t b ≡ ms → holds (t.bucket b) ms ≡ true
-            → FindsLowest t wanted (walk_at t (gnu_hash name) wanted (cond (starts t (t.bucket b)) (t.bucket b) 0))
+            → FindsLowest t wanted (Ok (walk_at t (gnu_hash name) wanted (cond (starts t (t.bucket b)) (t.bucket b) 0)))
         go [] none_there h =
             rw (eq-eqb (t.bucket b) 0 (eqb-true (t.bucket b) 0 h))
             (nothing (sym first_member ∙ ap (first_of wanted) none_there))

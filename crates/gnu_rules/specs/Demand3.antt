@@ -8,7 +8,7 @@
 --     Demand3Holds          the theorem: in an accepted table every lookup keeps it; `demand_3` in proofs/Demand3 proves it
 --     Demand3Last           the demand's last sentence, as a theorem: `demand_3_last` there proves it
 -- Assumes nothing.
-use Rattle.std.specs.Prelude.{ℕ, ◌≤◌, ◌<◌, ◌≡◌, false, cond, ◌&&◌, List, [], ◌∷◌, ◌↔◌, eqb, length}
+use Rattle.std.specs.Prelude.{ℕ, ◌≤◌, ◌<◌, ◌≡◌, Bool, true, false, cond, ◌&&◌, List, [], ◌∷◌, ◌↔◌, eqb, length, Result, Ok, Err}
 use Rattle.endian.specs.declared.kinds.Class.{Class}
 use Rattle.endian.specs.declared.kinds.Order.{Order}
 use Rattle.endian.specs.declared.refusals.Refusal.{Refusal}
@@ -16,32 +16,28 @@ use Rattle.endian.specs.Refusals.{any_long}
 use Rattle.endian.specs.Word.{word_at}
 use Rattle.name_hash.specs.Hash.{gnu_hash}
 use Rattle.symbol.specs.Table.{symbols_in, symbol_index}
-use Rattle.lookup.specs.declared.Answer.{Answer}
-use Rattle.lookup.specs.declared.Answer.TheVariants.{Found, Missing, Refused}
+use Rattle.lookup.specs.declared.Lookup.{Lookup}
 use Rattle.lookup.specs.Matches.{Matches, OneAsked}
 use Rattle.lookup.specs.Pick.{up_to}
-use Rattle.lookup.specs.Wanted.{Parts, Asked, wanted}
-use Rattle.gnu_table.specs.declared.filter.Bloom.{Bloom}
-use Rattle.gnu_table.specs.declared.filter.Bloom.TheVariants.{Passes, Stops, Refuses}
+use Rattle.lookup.specs.Wanted.{Parts, Asked, wanted, found as found_at, missing as missing_at}
 use Rattle.gnu_table.specs.Table.{value_of, same_but_low, bloom_filter}
 use Rattle.gnu.specs.Lookup.{gnu_chain, start_of}
 use Rattle.gnu.specs.Find.{gnu_table, gnu_find}
 use Rattle.gnu_rules.specs.declared.Checked.TheVariants.{Accepted}
 use Rattle.gnu_rules.specs.Rules.{gnu_check}
 
-abbrev pub probes_of : Answer → ℕ
-probes_of (Found symbol probes) = probes
-probes_of (Missing probes) = probes
-probes_of (Refused r) = 0
+abbrev pub probes_of : Result Lookup Refusal → ℕ
+probes_of (Ok lookup) = lookup.probes
+probes_of (Err r) = 0
 
 abbrev pub symbol_base : Order → Parts → ℕ
 symbol_base order p = word_at order 4 p.table 4
 
 -- pairs that are read: all of them where the filter lets the hash pass and the walk starts at a symbol, else none
-abbrev pub pairs_read : Bloom → (start : ℕ) → List ℕ → List ℕ
-pairs_read Passes start pairs = cond (eqb start 0) [] pairs
-pairs_read Stops start pairs = []
-pairs_read Refuses start pairs = []
+abbrev pub pairs_read : Result Bool Refusal → (start : ℕ) → List ℕ → List ℕ
+pairs_read (Ok true) start pairs = cond (eqb start 0) [] pairs
+pairs_read (Ok false) start pairs = []
+pairs_read (Err r) start pairs = []
 
 module _ (class : Class) (order : Order) (p : Parts) (asked : Asked) where
   pub record LowestMatch (k : ℕ) : Type 0 where
@@ -59,14 +55,14 @@ module _ (class : Class) (order : Order) (p : Parts) (asked : Asked) where
       pairs_read (bloom_filter t h) (start_of t h)
       (up_to (λ i. same_but_low (value_of t i) h && wanted class order p asked i) (gnu_chain t (start_of t h)))
 
-  pub record Demand3 (most : ℕ) (answer : Answer) : Type 0 where
+  pub record Demand3 (most : ℕ) (answer : Result Lookup Refusal) : Type 0 where
     -- the lookup is not refused
-    pub not_refused : (r : Refusal) → ¬ (answer ≡ Refused r)
+    pub not_refused : (r : Refusal) → ¬ (answer ≡ Err r)
     -- it finds symbol k exactly if k is the lowest number, from symbol_base on and below n, whose name is equal and whose
     -- version matches
-    pub found : (k : ℕ) → (answer ≡ Found (symbol_index k) (probes_of answer)) ↔ LowestMatch k
+    pub found : (k : ℕ) → (answer ≡ Ok (found_at (symbol_index k) (probes_of answer))) ↔ LowestMatch k
     -- it finds nothing exactly if there is none
-    pub missing : (answer ≡ Missing (probes_of answer)) ↔
+    pub missing : (answer ≡ Ok (missing_at (probes_of answer))) ↔
         ((k : ℕ) → symbol_base order p ≤ k → k < symbols_in class p.symbols → ¬ Matches class order p asked k)
     -- its probes are one for each chain value on document 01's walk
     pub counted : probes_of answer ≡ length walked

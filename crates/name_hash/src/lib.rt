@@ -14,17 +14,14 @@ pub fn gnu_step(h: u32, b: u8) -> u32
 }
 
 // The GNU hash. Refused: a name that is too long.
+#[tactic(auto, unfolding(crate::specs::Hash::gnu_hash))]
 pub fn gnu_hash(name: &[u8]) -> Result<u32, Refusal>
     ensures { result ≡ name_hash gnu_hash name.now }
 {
     if LIMIT < name.len() {
         return Err(TOO_LONG);
     }
-    let mut h: u32 = 5381;
-    for i in 0..name.len() {
-        h = gnu_step(h, name[i]);
-    }
-    Ok(h)
+    Ok(name.iter().fold(5381, |h, &b| gnu_step(h, b)))
 }
 
 fn sysv_step(h: u32, b: u8) -> u32
@@ -36,15 +33,12 @@ fn sysv_step(h: u32, b: u8) -> u32
 }
 
 // The SysV hash. Refused: a name that is too long.
+#[tactic(auto, unfolding(crate::specs::Hash::sysv_hash))]
 pub fn sysv_hash(name: &[u8]) -> Result<u32, Refusal>
     ensures { result ≡ name_hash sysv_hash name.now }
 {
     if LIMIT < name.len() {
         return Err(TOO_LONG);
     }
-    let mut h: u32 = 0;
-    for i in 0..name.len() {
-        h = sysv_step(h, name[i]);
-    }
-    Ok(h)
+    Ok(name.iter().fold(0, |h, &b| sysv_step(h, b)))
 }

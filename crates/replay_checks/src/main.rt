@@ -5,14 +5,11 @@
 use endian::kinds::Order;
 use export::kinds::{class_of, order_of};
 use gnu_rules::Checked;
+use replay::replay;
 use std::io;
-use std::io::{ErrorKind, Read};
 use word::{u8_at, u32_at};
 
 const RECORD: usize = 472;
-
-// The most records that are read.
-const MOST: u64 = 1000000;
 
 // Where the parts and the verdict stand in a record.
 const TABLE: usize = 3;
@@ -97,26 +94,11 @@ fn agrees(record: &[u8]) -> bool {
     }
 }
 
-fn report(rt: &impl Print, ran: u64, different: u64) -> io::Result<()> {
-    println!(rt; "{ran} recorded verdicts on hash tables, {different} different")
-}
-
 fn main(rt: HostRuntime) -> io::Result<()> {
-    let mut input = rt.reader();
     let mut record = [0u8; RECORD];
-    let mut ran: u64 = 0;
-    let mut different: u64 = 0;
-    while ran < MOST {
-        if let Err(error) = input.read_exact(&mut record) {
-            if error.kind() == ErrorKind::UnexpectedEof {
-                break;
-            }
-            return Err(error);
-        }
-        ran += 1;
-        if !agrees(&record) {
-            different += 1;
-        }
-    }
-    report(&rt, ran, different)
+    let tally = replay(&mut rt.reader(), &mut record, agrees)?;
+    println!(rt;
+        "{} recorded verdicts on hash tables, {} different",
+        tally.ran, tally.different
+    )
 }

@@ -6,17 +6,14 @@ use endian::kinds::{Class, Order};
 use export::kinds::{class_of, order_of};
 use gnu_length::TableLength;
 use lookup::Answer;
+use replay::replay;
 use std::io;
-use std::io::{ErrorKind, Read};
 use sysv_header::length::ChainCount;
 use version_match::Need;
 use version_parse::parse::{Parsed, parse};
 use word::{u8_at, u32_at};
 
 const RECORD: usize = 640;
-
-// The most records that are read.
-const MOST: u64 = 1000000;
 
 // Numbers in the store: more than any versions that are recorded ask for.
 const STORE: usize = 60;
@@ -208,26 +205,11 @@ fn agrees(record: &[u8]) -> bool {
     }
 }
 
-fn report(rt: &impl Print, ran: u64, different: u64) -> io::Result<()> {
-    println!(rt; "{ran} recorded lookups in hash tables, {different} different")
-}
-
 fn main(rt: HostRuntime) -> io::Result<()> {
-    let mut input = rt.reader();
     let mut record = [0u8; RECORD];
-    let mut ran: u64 = 0;
-    let mut different: u64 = 0;
-    while ran < MOST {
-        if let Err(error) = input.read_exact(&mut record) {
-            if error.kind() == ErrorKind::UnexpectedEof {
-                break;
-            }
-            return Err(error);
-        }
-        ran += 1;
-        if !agrees(&record) {
-            different += 1;
-        }
-    }
-    report(&rt, ran, different)
+    let tally = replay(&mut rt.reader(), &mut record, agrees)?;
+    println!(rt;
+        "{} recorded lookups in hash tables, {} different",
+        tally.ran, tally.different
+    )
 }

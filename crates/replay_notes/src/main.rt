@@ -8,14 +8,11 @@ use endian::kinds::Order;
 use export::kinds::{class_of, order_of};
 use note::reader::{Note, NoteReader, NoteStep, ReaderFor, reader_for};
 use property_reader::{Property, PropertyNumber, PropertyReader, PropertyStep, property_number};
+use replay::replay;
 use std::io;
-use std::io::{ErrorKind, Read};
 use word::{u8_at, u32_at};
 
 const RECORD: usize = 128;
-
-// The most records that are read.
-const MOST: u64 = 1000000;
 
 // Where the lent bytes and the steps stand in a record, and how long a step is.
 const BYTES: usize = 4;
@@ -182,26 +179,11 @@ fn agrees(record: &[u8]) -> bool {
     properties_agree(record, reader, bytes)
 }
 
-fn report(rt: &impl Print, ran: u64, different: u64) -> io::Result<()> {
-    println!(rt; "{ran} recorded walks over notes and properties, {different} different")
-}
-
 fn main(rt: HostRuntime) -> io::Result<()> {
-    let mut input = rt.reader();
     let mut record = [0u8; RECORD];
-    let mut ran: u64 = 0;
-    let mut different: u64 = 0;
-    while ran < MOST {
-        if let Err(error) = input.read_exact(&mut record) {
-            if error.kind() == ErrorKind::UnexpectedEof {
-                break;
-            }
-            return Err(error);
-        }
-        ran += 1;
-        if !agrees(&record) {
-            different += 1;
-        }
-    }
-    report(&rt, ran, different)
+    let tally = replay(&mut rt.reader(), &mut record, agrees)?;
+    println!(rt;
+        "{} recorded walks over notes and properties, {} different",
+        tally.ran, tally.different
+    )
 }

@@ -5,6 +5,7 @@
 use endian::kinds::{Class, Order};
 use export::kinds::{class_of, order_of};
 use note::reader::Align;
+use replay::replay;
 use segment::table::{SegmentAt, segment_at};
 use segment_data::part::{SegmentData, SegmentDataRange, segment_data, segment_data_range};
 use segment_dynamic::dynamic::{DynamicEntryAt, SegmentDynamic, dynamic_entry, segment_dynamic};
@@ -12,13 +13,9 @@ use segment_entry::Segment;
 use segment_parts::interpreter::{SegmentInterpreter, segment_interpreter};
 use segment_parts::notes::{SegmentNotes, segment_notes};
 use std::io;
-use std::io::{ErrorKind, Read};
 use word::{u8_at, u32_at, u64_at};
 
 const RECORD: usize = 320;
-
-// The most records that are read.
-const MOST: u64 = 1000000;
 
 // Where the parts, the numbers and the answers stand in a record.
 const TABLE: usize = 3;
@@ -236,26 +233,11 @@ fn agrees(record: &[u8]) -> bool {
     }
 }
 
-fn report(rt: &impl Print, ran: u64, different: u64) -> io::Result<()> {
-    println!(rt; "{ran} recorded answers about segments, {different} different")
-}
-
 fn main(rt: HostRuntime) -> io::Result<()> {
-    let mut input = rt.reader();
     let mut record = [0u8; RECORD];
-    let mut ran: u64 = 0;
-    let mut different: u64 = 0;
-    while ran < MOST {
-        if let Err(error) = input.read_exact(&mut record) {
-            if error.kind() == ErrorKind::UnexpectedEof {
-                break;
-            }
-            return Err(error);
-        }
-        ran += 1;
-        if !agrees(&record) {
-            different += 1;
-        }
-    }
-    report(&rt, ran, different)
+    let tally = replay(&mut rt.reader(), &mut record, agrees)?;
+    println!(rt;
+        "{} recorded answers about segments, {} different",
+        tally.ran, tally.different
+    )
 }

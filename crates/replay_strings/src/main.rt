@@ -3,15 +3,12 @@
 #![tactic(auto)]
 
 use endian::kinds::Order;
+use replay::replay;
 use std::io;
-use std::io::{ErrorKind, Read};
 use strings::StringAt;
 use word::{u8_at, u32_at};
 
 const RECORD: usize = 64;
-
-// The most records that are read.
-const MOST: u64 = 1000000;
 
 // Whether string_at gives the recorded refusal, or the recorded place.
 fn same_place(found: StringAt, refusal: u32, start: u32, length: u32) -> bool {
@@ -51,26 +48,11 @@ fn agrees(record: &[u8]) -> bool {
     strings::string_equals(strings, offset, name) == equal
 }
 
-fn report(rt: &impl Print, ran: u64, different: u64) -> io::Result<()> {
-    println!(rt; "{ran} recorded answers about strings, {different} different")
-}
-
 fn main(rt: HostRuntime) -> io::Result<()> {
-    let mut input = rt.reader();
     let mut record = [0u8; RECORD];
-    let mut ran: u64 = 0;
-    let mut different: u64 = 0;
-    while ran < MOST {
-        if let Err(error) = input.read_exact(&mut record) {
-            if error.kind() == ErrorKind::UnexpectedEof {
-                break;
-            }
-            return Err(error);
-        }
-        ran += 1;
-        if !agrees(&record) {
-            different += 1;
-        }
-    }
-    report(&rt, ran, different)
+    let tally = replay(&mut rt.reader(), &mut record, agrees)?;
+    println!(rt;
+        "{} recorded answers about strings, {} different",
+        tally.ran, tally.different
+    )
 }

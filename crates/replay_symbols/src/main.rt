@@ -4,16 +4,13 @@
 
 use endian::kinds::Order;
 use export::kinds::{class_of, order_of};
+use replay::replay;
 use std::io;
-use std::io::{ErrorKind, Read};
 use strings::StringAt;
 use symbol::table::{SymbolAt, SymbolIndex};
 use word::{u8_at, u16_at, u32_at, u64_at};
 
 const RECORD: usize = 128;
-
-// The most records that are read.
-const MOST: u64 = 1000000;
 
 // Whether symbol_at gives the refusal or the fields that are recorded from byte 100 on.
 fn same_symbol(found: SymbolAt, record: &[u8]) -> bool {
@@ -83,26 +80,11 @@ fn agrees(record: &[u8]) -> bool {
     same_name(named, record)
 }
 
-fn report(rt: &impl Print, ran: u64, different: u64) -> io::Result<()> {
-    println!(rt; "{ran} recorded answers about symbols, {different} different")
-}
-
 fn main(rt: HostRuntime) -> io::Result<()> {
-    let mut input = rt.reader();
     let mut record = [0u8; RECORD];
-    let mut ran: u64 = 0;
-    let mut different: u64 = 0;
-    while ran < MOST {
-        if let Err(error) = input.read_exact(&mut record) {
-            if error.kind() == ErrorKind::UnexpectedEof {
-                break;
-            }
-            return Err(error);
-        }
-        ran += 1;
-        if !agrees(&record) {
-            different += 1;
-        }
-    }
-    report(&rt, ran, different)
+    let tally = replay(&mut rt.reader(), &mut record, agrees)?;
+    println!(rt;
+        "{} recorded answers about symbols, {} different",
+        tally.ran, tally.different
+    )
 }

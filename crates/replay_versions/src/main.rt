@@ -4,8 +4,8 @@
 
 use endian::kinds::Order;
 use export::kinds::order_of;
+use replay::replay;
 use std::io;
-use std::io::{ErrorKind, Read};
 use symbol::table::SymbolIndex;
 use version::table::{VersymAt, version_of};
 use version_match::{Need, matches};
@@ -13,9 +13,6 @@ use version_parse::parse::{Parsed, parse};
 use word::{u8_at, u16_at, u32_at};
 
 const RECORD: usize = 288;
-
-// The most records that are read.
-const MOST: u64 = 1000000;
 
 // Numbers in the store, enough for any index, and how many of them are looked at: more than any
 // table that is recorded as read asks for.
@@ -152,26 +149,11 @@ fn agrees(record: &[u8]) -> bool {
     same_match(record, order, versyms, &store, strings)
 }
 
-fn report(rt: &impl Print, ran: u64, different: u64) -> io::Result<()> {
-    println!(rt; "{ran} recorded answers about versions, {different} different")
-}
-
 fn main(rt: HostRuntime) -> io::Result<()> {
-    let mut input = rt.reader();
     let mut record = [0u8; RECORD];
-    let mut ran: u64 = 0;
-    let mut different: u64 = 0;
-    while ran < MOST {
-        if let Err(error) = input.read_exact(&mut record) {
-            if error.kind() == ErrorKind::UnexpectedEof {
-                break;
-            }
-            return Err(error);
-        }
-        ran += 1;
-        if !agrees(&record) {
-            different += 1;
-        }
-    }
-    report(&rt, ran, different)
+    let tally = replay(&mut rt.reader(), &mut record, agrees)?;
+    println!(rt;
+        "{} recorded answers about versions, {} different",
+        tally.ran, tally.different
+    )
 }

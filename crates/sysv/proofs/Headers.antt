@@ -2,32 +2,27 @@
 --     find_from, find_from_lem    the lookup
 --     lookup_none, lookup_walk    the lookup by the numbers of the header: without buckets, or a walk from the hash's bucket
 -- Assumes nothing.
-use Prim.Native.Nat.{ℕ, ◌+◌, ◌*◌, ◌%◌}
-use mathlib.Core.Path.{◌≡◌, refl}
-use mathlib.Core.Bool.{Bool, true, false, cond}
-use mathlib.Core.List.{List, [], ◌∷◌}
-use mathlib.Core.Option.{Option, some, none}
-use lib.Dec.{ltb}
-use lib.ListN.{length}
+use Rattle.std.specs.Prelude.{ℕ, ◌+◌, ◌*◌, ◌%◌, ◌≡◌, Bool, true, false, cond, List, [], ◌∷◌, ltb, length, Result, Ok, Err}
+use Rattle.std.proofs.Common.{refl}
+use Rattle.std.proofs.Math.Option.{Option, some, none}
 use borrow.Author.Tests.{eq-eqb, ne_eqb}
 use Rattle.endian.specs.declared.kinds.Class.{Class}
 use Rattle.endian.specs.declared.kinds.Order.{Order}
 use Rattle.endian.specs.declared.refusals.Refusal.{Refusal}
 use Rattle.endian.specs.Refusals.{limit, any_long, too_long, unless_refused}
 use Rattle.endian.specs.Word.{word_at}
-use Rattle.lookup.specs.declared.Answer.{Answer}
-use Rattle.lookup.specs.Wanted.{Parts, Asked, wanted, walk}
+use Rattle.lookup.specs.declared.Lookup.{Lookup}
+use Rattle.lookup.specs.Wanted.{Parts, Asked, wanted, missing, walk}
 use Rattle.sysv_header.specs.declared.header.Header.{Header}
-use Rattle.sysv_header.specs.declared.header.HeaderAt.{HeaderAt}
 use Rattle.sysv_header.specs.Header.{sysv_fault}
 use Rattle.sysv_header.specs.Reading.{header_of, header_at}
 use Rattle.sysv.specs.Layout.{sysv_table_of}
 use Rattle.sysv.specs.Table.{visited, sysv_lookup}
 use Rattle.sysv.specs.Find.{sysv_table, sysv_find}
 
-abbrev pub find_from : HeaderAt → Answer → Answer
-find_from (HeaderAt.At header) answer = answer
-find_from (HeaderAt.Refused r) answer = Answer.Refused r
+abbrev pub find_from : Result Header Refusal → Lookup → Result Lookup Refusal
+find_from (Ok header) answer = Ok answer
+find_from (Err r) answer = Err r
 
 -- the table's own length is the header's to refuse
 module _ (class : Class) (order : Order) (p : Parts) (asked : Asked) (hash : ℕ) where
@@ -35,15 +30,15 @@ module _ (class : Class) (order : Order) (p : Parts) (asked : Asked) (hash : ℕ
   other_parts = p.symbols ∷ p.strings ∷ p.versyms ∷ p.version_strings ∷ asked.name ∷ asked.need_name ∷ []
 
   pub find_from_lem : sysv_find class order p asked hash
-      ≡ cond (any_long other_parts) (Answer.Refused too_long)
+      ≡ cond (any_long other_parts) (Err too_long)
       (find_from (header_at order p.table) (sysv_lookup (sysv_table class order p) hash (wanted class order p asked)))
   unfolding sysv_find header_at
   find_from_lem = by (ltb limit (length p.table)) (any_long other_parts) (sysv_fault order p.table) _
     where
-      by : (t u : Bool) (o : Option Refusal) (answer : Answer)
-          → cond (cond t true u) (Answer.Refused too_long) (unless_refused Answer.Refused o answer)
-          ≡ cond u (Answer.Refused too_long)
-          (find_from (cond t (HeaderAt.Refused too_long) (unless_refused HeaderAt.Refused o (HeaderAt.At (header_of order p.table)))) answer)
+      by : (t u : Bool) (o : Option Refusal) (answer : Lookup)
+          → cond (cond t true u) (Err too_long) (unless_refused Err o (Ok answer))
+          ≡ cond u (Err too_long)
+          (find_from (cond t (Err too_long) (unless_refused Err o (Ok (header_of order p.table)))) answer)
       by true true o answer = refl
       by true false o answer = refl
       by false true o answer = refl
@@ -53,7 +48,7 @@ module _ (class : Class) (order : Order) (p : Parts) (asked : Asked) (hash : ℕ
 module _ (class : Class) (order : Order) (table symbols strings : List ℕ) (hash : ℕ) (match : ℕ → Bool) (header : Header)
     (own : header ≡ header_of order table) where
   pub lookup_none : header.bucket_count ≡ 0
-      → sysv_lookup (sysv_table_of class order table symbols strings) hash match ≡ Answer.Missing 0
+      → sysv_lookup (sysv_table_of class order table symbols strings) hash match ≡ missing 0
   unfolding sysv_lookup
   lookup_none empty = let e = rw own at empty in rw (eq-eqb _ _ e)
 

@@ -15,18 +15,17 @@ use lib.Dec.{ltb}
 use lib.ListN.{length}
 use borrow.Author.Tests.{ne_eqb, lt-ltb, le-ltb}
 use Rattle.symbol.specs.Table.{symbol_index}
-use Rattle.lookup.specs.declared.Answer.{Answer}
-use Rattle.lookup.specs.declared.Answer.TheVariants.{Found, Missing}
+use Rattle.lookup.specs.declared.Lookup.{Lookup}
 use Rattle.lookup.specs.Pick.{first_of, up_to}
-use Rattle.lookup.specs.Wanted.{answer_after, walk}
+use Rattle.lookup.specs.Wanted.{found as found_at, missing, answer_after, walk}
 use Rattle.sysv.specs.Table.{visited}
 
 module _ (match : ℕ → Bool) (chains : ℕ) (chain : ℕ → ℕ) (start : ℕ) where
-  abbrev whole : Answer
+  abbrev whole : Lookup
   whole = walk match (visited chains chain chains start)
 
   -- what the numbers that are left answer after n probes
-  abbrev after : ℕ → List ℕ → Answer
+  abbrev after : ℕ → List ℕ → Lookup
   after n xs = answer_after (first_of match xs) (n + length (up_to match xs))
 
   unfoldable pub Walking : (i probes : ℕ) → Type 0
@@ -39,21 +38,21 @@ module _ (match : ℕ → Bool) (chains : ℕ) (chain : ℕ → ℕ) (start : �
       rw z (ap (answer_after (first_of match (visited chains chain chains start)))
       (zero-add (length (up_to match (visited chains chain chains start)))))
 
-  after_zero_lem : (n k : ℕ) → after n (visited chains chain k 0) ≡ Missing n
+  after_zero_lem : (n k : ℕ) → after n (visited chains chain k 0) ≡ missing n
   unfolding visited
   after_zero_lem n zero = rw add-zero
   after_zero_lem n (suc k) = rw add-zero
 
   module _ (i n : ℕ) (at : Walking i n) where
-    pub walking_zero : i ≡ 0 → Missing n ≡ whole
+    pub walking_zero : i ≡ 0 → missing n ≡ whole
     unfolding Walking
     walking_zero z = sym (after_zero_lem n (chains - n)) ∙ (rw z at at)
 
-    pub walking_spent : n ≡ chains → Missing n ≡ whole
+    pub walking_spent : n ≡ chains → missing n ≡ whole
     unfolding Walking visited
     walking_spent e =
         let z : chains - n ≡ 0 = omega arith in
-        let none : after n (visited chains chain (chains - n) i) ≡ Missing n = rw (z, add-zero) in
+        let none : after n (visited chains chain (chains - n) i) ≡ missing n = rw (z, add-zero) in
         sym none ∙ at
 
     module _ (more : n < chains) (there : ¬ (i ≡ 0)) where
@@ -62,16 +61,16 @@ module _ (match : ℕ → Bool) (chains : ℕ) (chain : ℕ → ℕ) (start : �
       unfolding visited
       here = let s : chains - n ≡ suc (chains - (n + 1)) = omega arith in rw (s, ne_eqb i 0 there)
 
-      pub walking_match : match i ≡ true → Found (symbol_index i) (n + 1) ≡ whole
+      pub walking_match : match i ≡ true → found_at (symbol_index i) (n + 1) ≡ whole
       unfolding Walking
       walking_match m =
-          let found : after n (visited chains chain (chains - n) i) ≡ Found (symbol_index i) (n + 1) = rw (here, m) in
+          let found : after n (visited chains chain (chains - n) i) ≡ found_at (symbol_index i) (n + 1) = rw (here, m) in
           sym found ∙ at
 
-      pub walking_past : match i ≡ false → chains ≤ i → Missing (n + 1) ≡ whole
+      pub walking_past : match i ≡ false → chains ≤ i → missing (n + 1) ≡ whole
       unfolding Walking
       walking_past m past =
-          let last : after n (visited chains chain (chains - n) i) ≡ Missing (n + 1) = rw (here, m, le-ltb i chains past) in
+          let last : after n (visited chains chain (chains - n) i) ≡ missing (n + 1) = rw (here, m, le-ltb i chains past) in
           sym last ∙ at
 
       pub walking_on : match i ≡ false → i < chains → Walking (chain i) (n + 1)

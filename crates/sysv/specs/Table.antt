@@ -7,9 +7,8 @@
 -- Assumes nothing.
 use Rattle.std.specs.Prelude.{ℕ, zero, suc, ◌%◌, Bool, cond, List, [], ◌∷◌, ltb, eqb}
 use Rattle.std.proofs.Math.Option.{Option}
-use Rattle.lookup.specs.declared.Answer.{Answer}
-use Rattle.lookup.specs.declared.Answer.TheVariants.{Missing}
-use Rattle.lookup.specs.Wanted.{walk}
+use Rattle.lookup.specs.declared.Lookup.{Lookup}
+use Rattle.lookup.specs.Wanted.{missing, walk}
 
 pub record SysvTable : Type 0 where
   -- the header: bucket_count, chain_count
@@ -33,5 +32,5 @@ abbrev pub numbers : SysvTable → (bucket : ℕ) → List ℕ
 numbers t b = visited t.chain_count t.chain t.chain_count (t.bucket b)
 
 -- the lookup of a hash; `wanted i`: symbol i has the name and the version that are asked for
-unfoldable pub sysv_lookup : SysvTable → ℕ → (ℕ → Bool) → Answer
-sysv_lookup t h wanted = cond (eqb t.bucket_count 0) (Missing 0) (walk wanted (numbers t (h % t.bucket_count)))
+unfoldable pub sysv_lookup : SysvTable → ℕ → (ℕ → Bool) → Lookup
+sysv_lookup t h wanted = cond (eqb t.bucket_count 0) (missing 0) (walk wanted (numbers t (h % t.bucket_count)))

@@ -9,10 +9,10 @@ ghost use Rattle.sysv.specs.Table.{visited, sysv_lookup};
 ghost use Rattle.sysv.specs.Find.{sysv_find};
 
 use endian::kinds::{Class, Order};
-use endian::refusals::{LIMIT, TOO_LONG};
-use lookup::{Answer, is_wanted};
+use endian::refusals::{LIMIT, Refusal, TOO_LONG};
+use lookup::{Lookup, is_wanted};
 use symbol::table::SymbolIndex;
-use sysv_header::header::{Header, HeaderAt, header_of};
+use sysv_header::header::{Header, header_of};
 use version_match::Need;
 use word::u32_at;
 
@@ -63,7 +63,7 @@ fn walk(
     chains_at: usize,
     chains: usize,
     start: u32,
-) -> Answer
+) -> Lookup
     requires { (chains_at < 2 ^ 40) × (chains < 2 ^ 32) }
     ensures { result
         ≡ walk_of
@@ -73,12 +73,12 @@ fn walk(
 {
     let mut i: u32 = start;
     let mut probes: usize = 0;
-    'chain: loop {
+    let found = 'chain: loop {
         if i == 0 {
-            break Answer::Missing(probes);
+            break None;
         }
         if probes == chains {
-            break Answer::Missing(probes);
+            break None;
         }
         probes += 1;
         let symbol = SymbolIndex(i);
@@ -95,13 +95,17 @@ fn walk(
             need,
             need_name,
         ) {
-            break Answer::Found(symbol, probes);
+            break Some(symbol);
         }
         let number = i as usize;
         if chains <= number {
-            break Answer::Missing(probes);
+            break None;
         }
         i = u32_at(order, table, chains_at + number * 4);
+    };
+    Lookup {
+        symbol: found,
+        probes,
     }
 }
 
@@ -120,7 +124,7 @@ fn lookup_at(
     need: Need,
     need_name: &[u8],
     header: Header,
-) -> Answer
+) -> Lookup
     requires { header ≡ header_of order table.now }
     ensures { result
         ≡ sysv_lookup (sysv_table_of class order table.now symbols.now strings.now) hash
@@ -129,7 +133,10 @@ fn lookup_at(
 {
     let buckets = header.bucket_count;
     if buckets == 0 {
-        return Answer::Missing(0);
+        return Lookup {
+            symbol: None,
+            probes: 0,
+        };
     }
     let start = u32_at(order, table, 8 + (hash % buckets) as usize * 4);
     let chains_at = 8 + buckets as usize * 4;
@@ -155,6 +162,7 @@ fn lookup_at(
 // The symbol of a name and a version, by the name's SysV hash, with the probes that were made: one
 // for each number tested. Refused in this order: a part that is too long, the store apart; as
 // `header_of`.
+#[tactic(auto, using(crate::proofs::Headers::find_from_lem))]
 pub fn find(
     class: Class,
     order: Order,
@@ -168,7 +176,7 @@ pub fn find(
     hash: u32,
     need: Need,
     need_name: &[u8],
-) -> Answer
+) -> Result<Lookup, Refusal>
     ensures { result
         ≡ sysv_find class order
         (record {
@@ -183,24 +191,22 @@ pub fn find(
         hash }
 {
     if any_long(symbols, strings, versyms, version_strings, name, need_name) {
-        return Answer::Refused(TOO_LONG);
+        return Err(TOO_LONG);
     }
-    match header_of(order, table) {
-        HeaderAt::At(header) => lookup_at(
-            class,
-            order,
-            table,
-            symbols,
-            strings,
-            versyms,
-            store,
-            version_strings,
-            name,
-            hash,
-            need,
-            need_name,
-            header,
-        ),
-        HeaderAt::Refused(refusal) => Answer::Refused(refusal),
-    }
+    let header = header_of(order, table)?;
+    Ok(lookup_at(
+        class,
+        order,
+        table,
+        symbols,
+        strings,
+        versyms,
+        store,
+        version_strings,
+        name,
+        hash,
+        need,
+        need_name,
+        header,
+    ))
 }

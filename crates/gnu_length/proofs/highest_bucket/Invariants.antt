@@ -1,6 +1,6 @@
 -- `gnu_length::highest_bucket` meets its contract. Invariant: the highest so far and the buckets from b on give the
--- highest. Measure: the buckets left. Assumes nothing.
-use Prim.Native.Nat.{ℕ, ◌+◌, ◌-◌, ◌*◌, ◌≤◌, max}
+-- highest. Assumes nothing.
+use Prim.Native.Nat.{ℕ, ◌+◌, ◌-◌, ◌*◌, max}
 use mathlib.Core.Path.{◌≡◌}
 use mathlib.Core.List.{List, map}
 use Rattle.endian.specs.declared.kinds.Order.{Order}
@@ -14,9 +14,5 @@ bucket order table at b = word_at order 4 table (at + b * 4)
 
 abbrev pub invariant-loop-b : goal.invariant-loop-b
 invariant-loop-b l =
-    (l.b ≤ l.bucket_count)
-    × (max l.highest (largest (map (bucket l.order l.table l.buckets_at) (from l.b (l.bucket_count - l.b))))
-    ≡ highest_of l.order l.table l.buckets_at l.bucket_count)
-
-abbrev pub decreases-loop-b : goal.decreases-loop-b
-decreases-loop-b l = l.bucket_count - l.b
+    max l.highest (largest (map (bucket l.order l.table l.buckets_at) (from l.b (l.bucket_count - l.b))))
+    ≡ highest_of l.order l.table l.buckets_at l.bucket_count

@@ -1,6 +1,6 @@
 -- `gnu_length::length_from` meets its contract. Invariant: the first of the symbols from i on is the first of all.
--- Measure: the symbols left. Assumes nothing.
-use Prim.Native.Nat.{◌-◌, ◌≤◌}
+-- Assumes nothing.
+use Prim.Native.Nat.{◌-◌}
 use mathlib.Core.Path.{◌≡◌}
 use Rattle.lookup.specs.Pick.{from, first_of}
 use Rattle.gnu_table.specs.Places.{pair_ends}
@@ -8,9 +8,5 @@ use Rattle.gnu_length.proofs.length_from.Given as goal
 
 abbrev pub invariant-loop-i : goal.invariant-loop-i
 invariant-loop-i l =
-    (l.base ≤ l.i)
-    × (first_of (pair_ends l.order l.table l.values_at l.base) (from l.i (l.end - l.i))
-    ≡ first_of (pair_ends l.order l.table l.values_at l.base) (from l.start (l.end - l.start)))
-
-abbrev pub decreases-loop-i : goal.decreases-loop-i
-decreases-loop-i l = l.end - l.i
+    first_of (pair_ends l.order l.table l.values_at l.base) (from l.i (l.end - l.i))
+    ≡ first_of (pair_ends l.order l.table l.values_at l.base) (from l.start (l.end - l.start))

@@ -3,8 +3,8 @@ use mathlib.Core.Path.{sym, ap, ◌∙◌}
 use Rattle.export_bytes.specs.Hashes.{hash_answer}
 use Rattle.export_bytes.proofs.hashes.hash_answer.Goals as goal
 
-pub returns-in-Hash : goal.returns-in-Hash
-returns-in-Hash c = c.number_answer.ensures ∙ ap hash_answer (sym c.in-Hash.is)
+pub returns-in-Ok : goal.returns-in-Ok
+returns-in-Ok c = c.number_answer.ensures ∙ ap hash_answer (sym c.in-Ok.is)
 
-pub returns-in-Refused : goal.returns-in-Refused
-returns-in-Refused c = c.no_number.ensures ∙ ap hash_answer (sym c.in-Refused.is)
+pub returns-in-Err : goal.returns-in-Err
+returns-in-Err c = c.no_number.ensures ∙ ap hash_answer (sym c.in-Err.is)

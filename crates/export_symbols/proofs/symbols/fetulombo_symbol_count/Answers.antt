@@ -9,16 +9,16 @@ returns-then-not-is_kind c =
     simp (sym tested.is_kind.ensures ∙ tested.if-not-is_kind.true)
     (rw c.unless_long.ensures at c.no_number.ensures)
 
-pub returns-in-Symbols : goal.returns-in-Symbols
-returns-in-Symbols c =
+pub returns-in-Ok : goal.returns-in-Ok
+returns-in-Ok c =
     let called = c in
     let tested = called in
     let counted = rw called.class_of.ensures at called.symbol_count.ensures in
-    simp (sym tested.is_kind.ensures ∙ tested.if-not-is_kind.false) (c.number_answer.ensures ∙ ap count_answer (sym c.in-Symbols.is ∙ counted))
+    simp (sym tested.is_kind.ensures ∙ tested.if-not-is_kind.false) (c.number_answer.ensures ∙ ap count_answer (sym c.in-Ok.is ∙ counted))
 
-pub returns-in-Refused : goal.returns-in-Refused
-returns-in-Refused c =
+pub returns-in-Err : goal.returns-in-Err
+returns-in-Err c =
     let called = c in
     let tested = called in
     let counted = rw called.class_of.ensures at called.symbol_count.ensures in
-    simp (sym tested.is_kind.ensures ∙ tested.if-not-is_kind.false) (c.no_number-in-Refused.ensures ∙ ap count_answer (sym c.in-Refused.is ∙ counted))
+    simp (sym tested.is_kind.ensures ∙ tested.if-not-is_kind.false) (c.no_number-in-Err.ensures ∙ ap count_answer (sym c.in-Err.is ∙ counted))

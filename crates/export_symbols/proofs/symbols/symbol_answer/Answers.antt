@@ -3,8 +3,8 @@ use mathlib.Core.Path.{sym, ap}
 use Rattle.export_symbols.specs.Symbols.{symbol_answer}
 use Rattle.export_symbols.proofs.symbols.symbol_answer.Goals as goal
 
-pub returns-in-At : goal.returns-in-At
-returns-in-At c = ap symbol_answer (sym c.in-At.is)
+pub returns-in-Ok : goal.returns-in-Ok
+returns-in-Ok c = ap symbol_answer (sym c.in-Ok.is)
 
-pub returns-in-Refused : goal.returns-in-Refused
-returns-in-Refused c = ap symbol_answer (sym c.in-Refused.is)
+pub returns-in-Err : goal.returns-in-Err
+returns-in-Err c = ap symbol_answer (sym c.in-Err.is)

@@ -11,33 +11,25 @@ returns-then-bucket_count-eq0 c =
 
 pub returns-then-count-start : goal.returns-then-count-start
 returns-then-count-start c =
-    let at_read = c in
-    let some = at_read in
-    let a = some.args in
-    sym (start_past (table_at a.class a.order a.table.now a.layout a.count) a.hash some.if-bucket_count-eq0.false
-    at_read.word_of-start.result (sym at_read.word_of-start.ensures) c.if-count-start.true)
+    let a = c.args in
+    sym (start_past (table_at a.class a.order a.table.now a.layout a.count) a.hash c.if-bucket_count-eq0.false
+    c.word_of-start.result (sym c.word_of-start.ensures) c.if-count-start.true)
 
 pub returns-then-start-layout : goal.returns-then-start-layout
 returns-then-start-layout c =
-    let at_read = c in
-    let some = at_read in
-    let a = some.args in
-    sym (start_below (table_at a.class a.order a.table.now a.layout a.count) a.hash some.if-bucket_count-eq0.false
-    at_read.word_of-start.result (sym at_read.word_of-start.ensures) c.if-start-layout.true)
+    let a = c.args in
+    sym (start_below (table_at a.class a.order a.table.now a.layout a.count) a.hash c.if-bucket_count-eq0.false
+    c.word_of-start.result (sym c.word_of-start.ensures) c.if-start-layout.true)
 
 pub returns-then-layout-start : goal.returns-then-layout-start
 returns-then-layout-start c =
-    let at_read = c in
-    let some = at_read in
-    let a = some.args in
-    sym (start_values (table_at a.class a.order a.table.now a.layout a.count) a.hash some.if-bucket_count-eq0.false
-    at_read.word_of-start.result (sym at_read.word_of-start.ensures) c.if-layout-start.true)
+    let a = c.args in
+    sym (start_values (table_at a.class a.order a.table.now a.layout a.count) a.hash c.if-bucket_count-eq0.false
+    c.word_of-start.result (sym c.word_of-start.ensures) c.if-layout-start.true)
 
 pub returns : goal.returns
 returns c =
-    let at_read = c in
-    let some = at_read in
-    let a = some.args in
-    sym (start_is (table_at a.class a.order a.table.now a.layout a.count) a.hash some.if-bucket_count-eq0.false
-    at_read.word_of-start.result (sym at_read.word_of-start.ensures)
+    let a = c.args in
+    sym (start_is (table_at a.class a.order a.table.now a.layout a.count) a.hash c.if-bucket_count-eq0.false
+    c.word_of-start.result (sym c.word_of-start.ensures)
     c.if-count-start.false c.if-start-layout.false c.if-layout-start.false)

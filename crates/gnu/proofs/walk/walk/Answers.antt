@@ -1,5 +1,5 @@
 -- `gnu::walk::walk` meets its contract. Invariant: the pairs from i on, after so many probes, give the answer.
--- Measure: the pairs left. Assumes nothing.
+-- Assumes nothing.
 use borrow.Author.Rules.{rules}
 use Prim.Native.Nat.{ℕ, ◌-◌, ◌/◌, ◌%◌}
 use mathlib.Core.Path.{◌≡◌, sym, ◌∙◌}
@@ -27,7 +27,7 @@ no_match class order p asked hash values_at base i value e h = rw (← e) h
 pub loop-i-init : goal.loop-i-init
 unfolding walk_pairs
 loop-i-init c =
-    (search rules, c.requires.1, omega arith, walk_from_start _ _ (from c.args.start (c.args.end - c.args.start)))
+    (search rules, walk_from_start _ _ (from c.args.start (c.args.end - c.args.start)))
 
 pub loop-i-preserved : goal.loop-i-preserved
 loop-i-preserved c =
@@ -52,4 +52,4 @@ loop-i-preserved c =
     ]) in
     let on = walk_from_on (pair_matches a.class a.order parts asked a.hash a.values_at a.base)
     (pair_ends a.order a.table.now a.values_at a.base) c.loop-i.probes i a.end (omega arith) missed going in
-    (omega arith, omega arith, omega arith, sym on ∙ c.loop-i.invariant.3)
+    (omega arith, sym on ∙ c.loop-i.invariant.1)

@@ -1,6 +1,6 @@
 -- `gnu::walk::walk` meets its contract. Invariant: the pairs from i on, after so many probes, give the answer.
--- Measure: the pairs left. Assumes nothing.
-use Prim.Native.Nat.{◌+◌, ◌-◌, ◌≤◌}
+-- Assumes nothing.
+use Prim.Native.Nat.{◌+◌, ◌-◌}
 use mathlib.Core.Path.{◌≡◌}
 use Rattle.lookup.specs.Pick.{from}
 use Rattle.lookup.specs.Wanted.{Parts, Asked}
@@ -20,10 +20,6 @@ invariant-loop-i l =
       version_strings = l.version_strings;
     } in
     let asked : Asked = record { name = l.name; need = l.need; need_name = l.need_name } in
-    (l.start ≤ l.i) × (l.i ≤ l.end) × (l.start + l.probes ≡ l.i)
+    (l.start + l.probes ≡ l.i)
     × (walk_from (pair_matches l.class l.order parts asked l.hash l.values_at l.base) (pair_ends l.order l.table l.values_at l.base) l.probes (from l.i (l.end - l.i))
     ≡ walk_pairs l.class l.order parts asked l.hash l.values_at l.base l.start l.end)
-
-abbrev pub decreases-loop-i : goal.decreases-loop-i
-decreases-loop-i l =
-    l.end - l.i

@@ -8,9 +8,8 @@ use Rattle.sysv.proofs.find.lookup_at.Goals as goal
 
 pub returns-then-buckets-eq0 : goal.returns-then-buckets-eq0
 returns-then-buckets-eq0 c =
-    let start = c in
-    sym (lookup_none start.args.class start.args.order start.args.table.now start.args.symbols.now
-    start.args.strings.now _ _ start.args.header start.requires c.if-buckets-eq0.true)
+    sym (lookup_none c.args.class c.args.order c.args.table.now c.args.symbols.now
+    c.args.strings.now _ _ c.args.header c.requires c.if-buckets-eq0.true)
 
 pub overflow_cast-hash : goal.overflow_cast-hash
 overflow_cast-hash c =
@@ -35,9 +34,7 @@ overflow_add-hash c =
 
 pub returns : goal.returns
 returns c =
-    let read = c in
-    let start = read in
     c.walk.ensures
-    ∙ (rw read.u32_at-start.ensures (sym
-    (lookup_walk start.args.class start.args.order start.args.table.now start.args.symbols.now
-    start.args.strings.now _ _ start.args.header start.requires read.if-buckets-eq0.false)))
+    ∙ (rw c.u32_at-start.ensures (sym
+    (lookup_walk c.args.class c.args.order c.args.table.now c.args.symbols.now
+    c.args.strings.now _ _ c.args.header c.requires c.if-buckets-eq0.false)))

@@ -1,6 +1,5 @@
 -- `sysv::find::walk` meets its contract. The invariant: the numbers that are left, after the probes that were made, give the
 -- answer. The measure is what is left of the tests. Assumes nothing.
-use Prim.Native.Nat.{◌-◌}
 use mathlib.Core.Path.{sym, ◌∙◌}
 use native.Mathlib.Omega.{arith}
 use borrow.Author.Rules.{rules}
@@ -24,13 +23,11 @@ chain-smaller c = omega arith
 
 pub chain-preserved : goal.chain-preserved
 chain-preserved c =
-    let tested = c in
-    let nonzero = tested in
-    let at = nonzero.chain in (
+    let at = c.chain in (
       search rules,
       omega arith,
       rw c.u32_at-i.ensures (walking_on _ _ _ _ at.i at.probes at.invariant.2 (omega arith) (search rules)
-          (sym tested.is_wanted.ensures ∙ c.if-is_wanted.false) c.if-chains-number.false),
+          (sym c.is_wanted.ensures ∙ c.if-is_wanted.false) c.if-chains-number.false),
     )
 
 pub returns-then-i-eq0 : goal.returns-then-i-eq0
@@ -45,15 +42,12 @@ returns-then-probes-chains c =
 
 pub returns-then-is_wanted : goal.returns-then-is_wanted
 returns-then-is_wanted c =
-    let nonzero = c in
-    let at = nonzero.chain in
+    let at = c.chain in
     walking_match _ _ _ _ at.i at.probes at.invariant.2 (omega arith) (search rules)
     (sym c.is_wanted.ensures ∙ c.if-is_wanted.true)
 
 pub returns-then-chains-number : goal.returns-then-chains-number
 returns-then-chains-number c =
-    let tested = c in
-    let nonzero = tested in
-    let at = nonzero.chain in
+    let at = c.chain in
     walking_past _ _ _ _ at.i at.probes at.invariant.2 (omega arith) (search rules)
-    (sym tested.is_wanted.ensures ∙ c.if-is_wanted.false) c.if-chains-number.true
+    (sym c.is_wanted.ensures ∙ c.if-is_wanted.false) c.if-chains-number.true

@@ -1,0 +1,46 @@
+// What the replays of the original's recorded answers share: the records of the standard input, one after
+// the other.
+#![tactic(auto)]
+
+ghost use Rattle.std.specs.Prelude.{◌≤◌, IfOk};
+
+use std::io;
+use std::io::{ErrorKind, Read};
+
+// The most records that are read.
+const MOST: u64 = 1000000;
+
+// How many records there were, and at how many of them the answer differs.
+#[derive(Clone, Copy, Debug, PartialEq, Eq)]
+pub struct Tally {
+    pub ran: u64,
+    pub different: u64,
+}
+
+// Reads records of the lent length to the end of the input, and tries each. A shorter one at the end is not tried.
+pub fn replay<R: Read, F: Fn(&[u8]) -> bool>(
+    input: &mut R,
+    record: &mut [u8],
+    agrees: F,
+) -> io::Result<Tally>
+    requires { F.IsAlwaysCallable agrees }
+    ensures { IfOk result (λ tally. tally.different ≤ tally.ran) }
+{
+    let mut tally = Tally {
+        ran: 0,
+        different: 0,
+    };
+    for _ in 0..MOST {
+        if let Err(error) = input.read_exact(record) {
+            if error.kind() == ErrorKind::UnexpectedEof {
+                break;
+            }
+            return Err(error);
+        }
+        tally.ran += 1;
+        if !agrees(record) {
+            tally.different += 1;
+        }
+    }
+    Ok(tally)
+}
