@@ -4,7 +4,7 @@ ghost use Rattle.std.specs.Prelude.{◌≡◌};
 ghost use Rattle.export.specs.Answers.{number, no_number, truth, place_of};
 
 use endian::refusals::Refusal;
-use strings::StringAt;
+use strings::Place;
 
 // A number, or a truth as 0 or 1. unused is 0.
 #[repr(C)]
@@ -51,16 +51,16 @@ pub fn truth_answer(value: bool) -> NumberAnswer
 }
 
 // A place as the struct that C gets.
-pub fn place_answer(found: StringAt) -> PlaceAnswer
+pub fn place_answer(found: Result<Place, Refusal>) -> PlaceAnswer
     ensures { result ≡ place_of found }
 {
     match found {
-        StringAt::At { start, len } => PlaceAnswer {
+        Ok(place) => PlaceAnswer {
             refusal: 0,
-            start: start as u64,
-            length: len as u64,
+            start: place.start as u64,
+            length: place.len as u64,
         },
-        StringAt::Refused(refusal) => PlaceAnswer {
+        Err(refusal) => PlaceAnswer {
             refusal: refusal.0 as u64,
             start: 0,
             length: 0,
