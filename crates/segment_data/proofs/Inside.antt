@@ -2,19 +2,24 @@
 --     leb_same                      two tests that say the same
 --     in_file_rest, in_file_past    `is_in_file`: by what is left after the offset, and by an offset past the end
 --     in_file_true                  what it says
+--     data_inside                   what `segment_data` answers: the segment's own place, and it lies in a file that is not too long
 --     here_below, _past, _rest      `is_here`: by the address, by how far it is from vaddr, and by what is left after that
 --     here_true                     what it says
 -- Assumes nothing.
 use Prim.Native.Nat.{ℕ, ◌+◌, ◌-◌, ◌<◌, ◌≤◌}
-use mathlib.Core.Path.{◌≡◌, refl, sym, ◌∙◌}
-use mathlib.Core.Bool.{Bool, true, false, ◌&&◌}
+use mathlib.Core.Path.{◌≡◌, refl, sym, ap, ◌∙◌}
+use mathlib.Core.Bool.{Bool, true, false, cond, ◌&&◌}
 use mathlib.Core.List.{List}
 use native.Mathlib.Omega.{arith}
-use lib.Dec.{leb}
+use lib.Dec.{leb, ltb}
 use lib.ListN.{length}
-use borrow.Author.Tests.{le-leb, lt-leb, leb-true}
+use borrow.Author.Tests.{le-leb, lt-leb, leb-true, ltb-false}
 use Rattle.strings.proofs.Meaning.{false_true}
-use Rattle.segment_data.specs.Part.{is_in_file, is_here}
+use Rattle.std.specs.Prelude.{Result, Ok, Err}
+use Rattle.endian.specs.Refusals.{limit, too_long, bad_segment_data}
+use Rattle.endian.specs.declared.refusals.Refusal.{Refusal}
+use Rattle.strings.specs.declared.Place.{Place}
+use Rattle.segment_data.specs.Part.{is_in_file, segment_data, is_here}
 use Rattle.segment_entry.specs.declared.Segment.{Segment}
 
 leb_same : (a b c d : ℕ) → (a ≤ b → c ≤ d) → (c ≤ d → a ≤ b) → leb a b ≡ leb c d
@@ -39,6 +44,19 @@ module _ (file : List ℕ) (segment : Segment) where
   pub in_file_true : is_in_file file segment ≡ true → segment.offset + segment.filesz ≤ length file
   unfolding is_in_file
   in_file_true e = leb-true (segment.offset + segment.filesz) (length file) e
+
+  pub data_inside : (place : Place) → Ok place ≡ segment_data file segment
+      → (place.start ≡ segment.offset) × (place.len ≡ segment.filesz) × (segment.offset + segment.filesz ≤ length file) × (length file ≤ limit)
+  data_inside place read = by (ltb limit (length file)) refl (is_in_file file segment) refl read
+    where
+      by : (t : Bool) → ltb limit (length file) ≡ t → (u : Bool) → is_in_file file segment ≡ u
+          → Ok place ≡ cond {A = Result Place Refusal} t (Err too_long) (cond u (Ok (record { start = segment.offset; len = segment.filesz })) (Err bad_segment_data))
+          → (place.start ≡ segment.offset) × (place.len ≡ segment.filesz) × (segment.offset + segment.filesz ≤ length file) × (length file ≤ limit)
+      by true e u f g = let z : ◌≡◌ {A = ℕ} 0 1 = cc in absurd (omega arith)
+      by false e false f g = let z : ◌≡◌ {A = ℕ} 0 1 = cc in absurd (omega arith)
+      by false e true f g =
+          let here : place ≡ record { start = segment.offset; len = segment.filesz } = cc in
+          (ap (λ p. p.start) here, ap (λ p. p.len) here, in_file_true f, ltb-false limit (length file) e)
 
 module _ (segment : Segment) (address size : ℕ) where
   pub here_below : address < segment.vaddr → is_here segment address size ≡ false
