@@ -31,10 +31,7 @@ pub fn gnu_properties(
 ) -> Result<Option<PropertyReader>, Refusal>
     ensures { result ≡ gnu_properties class order kind name.now descriptor.now }
 {
-    if LIMIT < name.len() {
-        return Err(TOO_LONG);
-    }
-    if LIMIT < descriptor.len() {
+    if LIMIT < name.len() || LIMIT < descriptor.len() {
         return Err(TOO_LONG);
     }
     if kind != NT_GNU_PROPERTY_TYPE_0 || !is_gnu(name) {

@@ -25,6 +25,7 @@ pub fn notes_of<'a>(bytes: &'a [u8], reader: NoteReader) -> Notes<'a>
 
 impl<'a> Notes<'a> {
     // One note further: as `NoteReader::step`, with the reader moved.
+    // No `Iterator`, which would not end: over bytes that are too long each step is refused anew.
     pub fn next(&mut self) -> Result<Option<Note>, Refusal>
         ensures found { result ≡ answered self.old }
         ensures moved { self.new ≡ stepped self.old }

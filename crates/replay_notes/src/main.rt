@@ -81,12 +81,14 @@ fn recorded_property(step: &[u8]) -> Option<Result<Option<Property>, Refusal>> {
     }
 }
 
+// A property's data, where it is all there.
+fn data_of(property: Property, bytes: &[u8]) -> Option<&[u8]> {
+    bytes.get(property.start..)?.get(..property.size)
+}
+
 // Whether the property's number is the recorded one, of which the record has the lowest byte.
 fn number_agrees(step: &[u8], order: Order, property: Property, bytes: &[u8]) -> bool {
-    let Some(rest) = bytes.get(property.start..) else {
-        return false;
-    };
-    let Some(part) = rest.get(..property.size) else {
+    let Some(part) = data_of(property, bytes) else {
         return false;
     };
     let recorded = match u8_at(step, 8) {

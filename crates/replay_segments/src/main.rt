@@ -55,12 +55,15 @@ const FOUND: u8 = 1;
 
 const NONE: u8 = 2;
 
+// The bytes at a place, where they are all there.
+fn part(bytes: &[u8], place: Place) -> Option<&[u8]> {
+    bytes.get(place.start..)?.get(..place.len)
+}
+
 // A part of the record, or none of it where the record is too short.
-fn part(record: &[u8; RECORD], start: usize, length: u8) -> &[u8] {
-    match record.get(start..) {
-        Some(rest) => rest.get(..length as usize).unwrap_or(&[]),
-        None => &[],
-    }
+fn recorded(record: &[u8; RECORD], start: usize, length: u8) -> &[u8] {
+    let len = length as usize;
+    part(record, Place { start, len }).unwrap_or(&[])
 }
 
 // The recorded segment.
@@ -83,7 +86,7 @@ type Part = (Place, usize);
 
 // The answer that 5 bytes from a place on record, or none where they record no such thing.
 fn recorded_part(record: &[u8; RECORD], at: usize) -> Option<Result<Option<Part>, Refusal>> {
-    let answer = part(record, at, 5);
+    let answer = recorded(record, at, 5);
     let refusal = Refusal(u8_at(answer, 1) as u32);
     let place = Place {
         start: u8_at(answer, 2) as usize,
@@ -116,17 +119,11 @@ fn recorded_entry(record: &[u8; RECORD]) -> Option<Option<DynamicEntry>> {
 
 // Whether the entry of the recorded number among the entries' bytes is the recorded one.
 fn entry_agrees(record: &[u8; RECORD], class: Class, order: Order, place: Place) -> bool {
-    let file = part(record, FILE, record[FILE - 1]);
-    let Some(rest) = file.get(place.start..) else {
-        return false;
-    };
-    let Some(bytes) = rest.get(..place.len) else {
-        return false;
-    };
+    let file = recorded(record, FILE, record[FILE - 1]);
     let number = record[ENTRY_NUMBER] as u32;
-    match recorded_entry(record) {
-        Some(recorded) => dynamic_entry(class, order, bytes, number) == Ok(recorded),
-        None => false,
+    match (part(file, place), recorded_entry(record)) {
+        (Some(bytes), Some(entry)) => dynamic_entry(class, order, bytes, number) == Ok(entry),
+        _ => false,
     }
 }
 
@@ -155,7 +152,7 @@ fn notes_agree(record: &[u8; RECORD], found: Result<Option<NotesPart>, Refusal>)
 
 // Whether all that the segment holds is as recorded.
 fn held_agrees(record: &[u8; RECORD], class: Class, order: Order, segment: Segment) -> bool {
-    let file = part(record, FILE, record[FILE - 1]);
+    let file = recorded(record, FILE, record[FILE - 1]);
     let address = u64_at(Order::Little, record, ADDRESS);
     let size = u64_at(Order::Little, record, SIZE);
     place_agrees(record, DATA, segment_data(file, segment).map(Some))
@@ -172,7 +169,7 @@ fn held_agrees(record: &[u8; RECORD], class: Class, order: Order, segment: Segme
 fn agrees(record: &[u8; RECORD]) -> bool {
     let class = class_of(record[0]);
     let order = order_of(record[1]);
-    let table = part(record, TABLE, record[2]);
+    let table = recorded(record, TABLE, record[2]);
     let number = u32_at(Order::Little, record, NUMBER);
     let refusal = record[SEGMENT] as u32;
     match segment_at(class, order, table, number) {

@@ -7,6 +7,7 @@ use segment_entry::Segment;
 use strings::Place;
 
 // Whether the segment's bytes are all in the file. Offset and size may be any numbers.
+#[tactic(auto, unfolding(crate::specs::Part::is_in_file))]
 pub fn is_in_file(file: &[u8], segment: Segment) -> bool
     ensures { result ≡ is_in_file file.now segment }
 {
@@ -18,6 +19,7 @@ pub fn is_in_file(file: &[u8], segment: Segment) -> bool
 }
 
 // Whether the segment's file bytes have the addresses from `address` on.
+#[tactic(auto, unfolding(crate::specs::Part::is_here))]
 fn is_here(segment: Segment, address: u64, size: u64) -> bool
     ensures { result ≡ is_here segment address size }
 {
@@ -31,7 +33,8 @@ fn is_here(segment: Segment, address: u64, size: u64) -> bool
     size <= segment.filesz - from
 }
 
-// The segment's bytes, as a part of the lent file. Refused in this order: a file that is too long; bytes that are not all in it.
+// The segment's bytes, as a part of the lent file. Refused in this order: a file that is too long;
+// bytes that are not all in it.
 pub fn segment_data(file: &[u8], segment: Segment) -> Result<Place, Refusal>
     ensures { result ≡ segment_data file.now segment }
 {
@@ -49,6 +52,7 @@ pub fn segment_data(file: &[u8], segment: Segment) -> Result<Place, Refusal>
 
 // The bytes of an address range: not here if it begins below the segment's address or reaches past
 // its file bytes. Refused first, as `segment_data`.
+#[tactic(auto, unfolding(crate::specs::Part::is_in_file, crate::specs::Part::is_here))]
 pub fn segment_data_range(
     file: &[u8],
     segment: Segment,

@@ -4,7 +4,7 @@ ghost use Rattle.segment_dynamic.specs.Dynamic.{dynamic_size, dynamic_of, segmen
 
 use endian::kinds::{Class, Order};
 use endian::refusals::{BAD_DYNAMIC_PLACE, LIMIT, Refusal, TOO_LONG};
-use segment_data::part::is_in_file;
+use segment_data::part::segment_data;
 use segment_entry::{PT_DYNAMIC, Segment};
 use strings::Place;
 use word::{u32_at, u64_at};
@@ -65,16 +65,12 @@ pub fn segment_dynamic(
     if segment.kind != PT_DYNAMIC {
         return Ok(None);
     }
-    if !is_in_file(file, segment) {
+    let Ok(place) = segment_data(file, segment) else {
         return Err(BAD_DYNAMIC_PLACE);
-    }
-    let len = segment.filesz as usize;
+    };
     Ok(Some(DynamicPart {
-        place: Place {
-            start: segment.offset as usize,
-            len,
-        },
-        count: len / dynamic_size(class),
+        place,
+        count: place.len / dynamic_size(class),
     }))
 }
 

@@ -5,7 +5,7 @@ ghost use Rattle.segment_parts.specs.SegmentNotes.{segment_notes};
 use endian::kinds::Order;
 use endian::refusals::{BAD_NOTE_PLACE, LIMIT, Refusal, TOO_LONG};
 use note::reader::{NoteReader, reader_for};
-use segment_data::part::is_in_file;
+use segment_data::part::segment_data;
 use segment_entry::{PT_NOTE, Segment};
 use strings::Place;
 
@@ -31,15 +31,9 @@ pub fn segment_notes(
     if segment.kind != PT_NOTE {
         return Ok(None);
     }
-    if !is_in_file(file, segment) {
+    let Ok(place) = segment_data(file, segment) else {
         return Err(BAD_NOTE_PLACE);
-    }
+    };
     let reader = reader_for(order, segment.align)?;
-    Ok(Some(NotesPart {
-        reader,
-        place: Place {
-            start: segment.offset as usize,
-            len: segment.filesz as usize,
-        },
-    }))
+    Ok(Some(NotesPart { reader, place }))
 }
