@@ -131,7 +131,9 @@ fn agrees(record: &[u8; RECORD]) -> bool {
 
 fn main(rt: HostRuntime) -> io::Result<()> {
     let mut record = [0u8; RECORD];
-    let tally = replay(&mut rt.reader(), &mut record, agrees)?;
+    let tally = replay(&mut rt.reader(), &mut record, |record| {
+        record.first_chunk().is_some_and(agrees)
+    })?;
     println!(rt;
         "{} recorded walks over notes and properties, {} different",
         tally.ran, tally.different
