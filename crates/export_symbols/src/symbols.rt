@@ -6,7 +6,7 @@ ghost use Rattle.export_symbols.specs.Symbols.{symbol_count_answer, symbol_answe
 use endian::refusals::Refusal;
 use export::answers::{NumberAnswer, PlaceAnswer, no_number, number_answer, place_answer};
 use export::kinds::{known, known_class};
-use symbol::table::SymbolIndex;
+use symbol::table::{SymbolIndex, symbol_at, symbol_count, symbol_name};
 use symbol_entry::Symbol;
 
 #[repr(C)]
@@ -25,9 +25,7 @@ pub struct SymbolAnswer {
 pub extern "C" fn fetulombo_symbol_count(class: u8, symbols: &[u8]) -> NumberAnswer
     ensures { result ≡ symbol_count_answer class symbols.now }
 {
-    let counted = known_class(class, &[symbols]).and_then(|class| symbol::table::symbol_count(
-        class, symbols,
-    ));
+    let counted = known_class(class, &[symbols]).and_then(|class| symbol_count(class, symbols));
     match counted {
         Ok(count) => number_answer(count as u64),
         Err(refusal) => no_number(refusal),
@@ -69,7 +67,7 @@ pub extern "C" fn fetulombo_symbol_at(
     ensures { result ≡ symbol_at_answer class order symbols.now index }
 {
     let found = known(class, order, &[symbols]).and_then(|(class, order)| {
-        symbol::table::symbol_at(class, order, symbols, SymbolIndex(index))
+        symbol_at(class, order, symbols, SymbolIndex(index))
     });
     symbol_answer(found)
 }
@@ -85,7 +83,7 @@ pub extern "C" fn fetulombo_symbol_name(
     ensures { result ≡ symbol_name_answer class order symbols.now strings.now index }
 {
     let found = known(class, order, &[symbols, strings]).and_then(|(class, order)| {
-        symbol::table::symbol_name(class, order, symbols, strings, SymbolIndex(index))
+        symbol_name(class, order, symbols, strings, SymbolIndex(index))
     });
     place_answer(found)
 }
