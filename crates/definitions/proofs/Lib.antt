@@ -1,3 +1,2 @@
--- `Counting`: the loop that counts. `Told`: what the number of symbols says.
+-- `Counting`: the numbers of a run that pass a test, as the library counts them.
 mod Counting
-mod Told

@@ -6,34 +6,31 @@
 --     count_in          how many of the numbers 1 to n - 1 pass a test
 --     definitions_of    how many symbols but the null one are such definitions
 -- Assumes nothing.
-use Rattle.std.specs.Prelude.{ℕ, ◌-◌, Bool, true, false, cond, not, ◌&&◌, List, [], ◌∷◌, length}
+use Rattle.std.specs.Prelude.{ℕ, ◌-◌, Bool, true, false, cond, not, ◌&&◌, List, [], ◌∷◌, length, Result, Ok, Err}
 use Rattle.endian.specs.declared.kinds.Class.{Class}
 use Rattle.endian.specs.declared.kinds.Order.{Order}
 use Rattle.endian.specs.Refusals.{any_long, too_long}
 use Rattle.symbol_entry.specs.Entry.{is_undefined}
-use Rattle.symbol.specs.declared.table.SymbolAt.{SymbolAt}
-use Rattle.symbol.specs.declared.table.SymbolAt.TheVariants.{At, Refused as Symbol-as-Refused}
+use Rattle.endian.specs.declared.refusals.Refusal.{Refusal}
+use Rattle.symbol_entry.specs.declared.Symbol.{Symbol}
 use Rattle.symbol.specs.Table.{symbol_at, symbols_in, symbol_index}
-use Rattle.version.specs.declared.table.VersymAt.{VersymAt}
-use Rattle.version.specs.declared.table.VersymAt.TheVariants.{At as Versym-as-At, Refused as Versym-as-Refused}
+use Rattle.version.specs.declared.table.Versym.{Versym}
 use Rattle.version.specs.Index.{is_special}
 use Rattle.version.specs.Table.{versym_at}
 use Rattle.lookup.specs.Pick.{from, select}
 use Rattle.lookup.specs.Wanted.{name_of, is_named}
 use Rattle.definitions.specs.declared.Which.{Which}
 use Rattle.definitions.specs.declared.Which.TheVariants.{All, Unversioned}
-use Rattle.definitions.specs.declared.Definitions.{Definitions}
-use Rattle.definitions.specs.declared.Definitions.TheVariants.{Count, Refused}
 
-abbrev pub is_defined : SymbolAt → Bool
-is_defined (At symbol) = not (is_undefined symbol)
-is_defined (Symbol-as-Refused r) = false
+abbrev pub is_defined : Result Symbol Refusal → Bool
+is_defined (Ok symbol) = not (is_undefined symbol)
+is_defined (Err r) = false
 
-abbrev pub has_no_version : VersymAt → Bool
-has_no_version (Versym-as-At versym) = is_special versym.index
-has_no_version (Versym-as-Refused r) = false
+abbrev pub has_no_version : Result Versym Refusal → Bool
+has_no_version (Ok versym) = is_special versym.index
+has_no_version (Err r) = false
 
-abbrev pub meant : Which → VersymAt → Bool
+abbrev pub meant : Which → Result Versym Refusal → Bool
 meant All versym = true
 meant Unversioned versym = has_no_version versym
 
@@ -45,7 +42,7 @@ defines_in class order symbols strings versyms name which i =
 unfoldable pub count_in : (ℕ → Bool) → ℕ → ℕ
 count_in p n = length (select p (from 1 (n - 1)))
 
-abbrev pub definitions_of : Class → Order → (symbols strings versyms name : List ℕ) → Which → Definitions
+abbrev pub definitions_of : Class → Order → (symbols strings versyms name : List ℕ) → Which → Result ℕ Refusal
 definitions_of class order symbols strings versyms name which =
-    cond (any_long (strings ∷ versyms ∷ name ∷ symbols ∷ [])) (Refused too_long)
-    (Count (count_in (defines_in class order symbols strings versyms name which) (symbols_in class symbols)))
+    cond (any_long (strings ∷ versyms ∷ name ∷ symbols ∷ [])) (Err too_long)
+    (Ok (count_in (defines_in class order symbols strings versyms name which) (symbols_in class symbols)))

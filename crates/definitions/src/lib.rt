@@ -1,36 +1,30 @@
 // The definitions of a name, among all symbols.
 #![tactic(auto)]
 
-ghost use Rattle.std.specs.Prelude.{cond, ◌≡◌};
+ghost use Rattle.std.specs.Prelude.{◌≡◌};
 ghost use Rattle.symbol.specs.Table.{symbol_at};
 ghost use Rattle.version.specs.Table.{versym_at};
-ghost use Rattle.definitions.specs.Definitions.{is_defined, has_no_version, defines_in, count_in, definitions_of};
+ghost use Rattle.definitions.specs.Definitions.{is_defined, has_no_version, meant, defines_in, count_in, definitions_of};
 
 use endian::kinds::{Class, Order};
 use endian::refusals::{LIMIT, Refusal, TOO_LONG};
 use lookup::has_name;
-use symbol::table::{SymbolAt, SymbolCount, SymbolIndex, symbol_at, symbol_count};
-use version::table::{VersymAt, version_of};
+use symbol::table::{SymbolIndex, symbol_at, symbol_count};
+use version::table::version_of;
 
 // Which definitions of a name are meant: all, or those without a version, whose index is special.
-#[derive(Clone, Copy)]
+#[derive(Clone, Copy, Debug, PartialEq, Eq)]
 pub enum Which {
     All,
     Unversioned,
-}
-
-#[derive(Clone, Copy)]
-pub enum Definitions {
-    Count(u32),
-    Refused(Refusal),
 }
 
 fn is_defined(class: Class, order: Order, symbols: &[u8], symbol: SymbolIndex) -> bool
     ensures { result ≡ is_defined (symbol_at class order symbols.now symbol) }
 {
     match symbol_at(class, order, symbols, symbol) {
-        SymbolAt::At(entry) => !entry.is_undefined(),
-        SymbolAt::Refused(_) => false,
+        Ok(entry) => !entry.is_undefined(),
+        Err(_) => false,
     }
 }
 
@@ -38,13 +32,23 @@ fn has_no_version(order: Order, versyms: &[u8], symbol: SymbolIndex) -> bool
     ensures { result ≡ has_no_version (versym_at order versyms.now symbol) }
 {
     match version_of(order, versyms, symbol) {
-        VersymAt::At(versym) => versym.index.is_special(),
-        VersymAt::Refused(_) => false,
+        Ok(versym) => versym.index.is_special(),
+        Err(_) => false,
+    }
+}
+
+fn is_meant(order: Order, versyms: &[u8], which: Which, symbol: SymbolIndex) -> bool
+    ensures { result ≡ meant which (versym_at order versyms.now symbol) }
+{
+    match which {
+        Which::All => true,
+        Which::Unversioned => has_no_version(order, versyms, symbol),
     }
 }
 
 // Whether a symbol bears the name, is not undefined, and is one of those that are meant; never where
 // a part that is looked at is too long.
+#[tactic(auto, unfolding(crate::specs::Definitions::defines_in))]
 pub fn defines(
     class: Class,
     order: Order,
@@ -59,22 +63,9 @@ pub fn defines(
         ≡ defines_in class order symbols.now strings.now versyms.now name.now
         which symbol.0 }
 {
-    if !has_name(class, order, symbols, strings, symbol, name) {
-        return false;
-    }
-    if !is_defined(class, order, symbols, symbol) {
-        return false;
-    }
-    match which {
-        Which::All => true,
-        Which::Unversioned => has_no_version(order, versyms, symbol),
-    }
-}
-
-fn one_if(truth: bool) -> u32
-    ensures { result ≡ cond truth 1 0 }
-{
-    if truth { 1 } else { 0 }
+    has_name(class, order, symbols, strings, symbol, name)
+        && is_defined(class, order, symbols, symbol)
+        && is_meant(order, versyms, which, symbol)
 }
 
 // How many of the symbols 1 to `end - 1` are such definitions.
@@ -93,15 +84,20 @@ fn count_below(
         (defines_in class order symbols.now strings.now versyms.now name.now which)
         end }
 {
-    let mut count: u32 = 0;
-    let mut i: u32 = 1;
-    while i < end {
-        let symbol = SymbolIndex(i);
-        let here = defines(class, order, symbols, strings, versyms, name, which, symbol);
-        count += one_if(here);
-        i += 1;
-    }
-    count
+    (1..end)
+        .filter(|i| {
+            defines(
+                class,
+                order,
+                symbols,
+                strings,
+                versyms,
+                name,
+                which,
+                SymbolIndex(*i),
+            )
+        })
+        .count() as u32
 }
 
 // How many symbols but the null one bear the name, are not undefined, and are of those that are
@@ -114,24 +110,14 @@ pub fn definitions_of(
     versyms: &[u8],
     name: &[u8],
     which: Which,
-) -> Definitions
+) -> Result<u32, Refusal>
     ensures { result
         ≡ definitions_of class order symbols.now strings.now versyms.now name.now
         which }
 {
-    if LIMIT < strings.len() {
-        return Definitions::Refused(TOO_LONG);
+    if LIMIT < strings.len() || LIMIT < versyms.len() || LIMIT < name.len() {
+        return Err(TOO_LONG);
     }
-    if LIMIT < versyms.len() {
-        return Definitions::Refused(TOO_LONG);
-    }
-    if LIMIT < name.len() {
-        return Definitions::Refused(TOO_LONG);
-    }
-    match symbol_count(class, symbols) {
-        SymbolCount::Symbols(end) => Definitions::Count(count_below(
-            class, order, symbols, strings, versyms, name, which, end,
-        )),
-        SymbolCount::Refused(refusal) => Definitions::Refused(refusal),
-    }
+    let end = symbol_count(class, symbols)?;
+    Ok(count_below(class, order, symbols, strings, versyms, name, which, end))
 }

@@ -29,7 +29,8 @@ use Rattle.gnu_table.specs.Header.{gnu_fault}
 use Rattle.gnu.specs.Lookup.{gnu_chain, start_of, walk_at, filtered, gnu_lookup}
 use Rattle.gnu.specs.Find.{gnu_table, gnu_find}
 use Rattle.gnu.proofs.Theorems.{find_one}
-use Rattle.gnu_rules.specs.declared.Checked.TheVariants.{Accepted, Refused as Checked-as-Refused}
+use Rattle.gnu_rules.specs.declared.Fault.{Fault}
+use Rattle.gnu_rules.specs.declared.Fault.TheVariants.{Refused}
 use Rattle.gnu_rules.specs.Rules.{gnu_table_check, gnu_check}
 use Rattle.gnu_rules.specs.Demand3.{probes_of, symbol_base, pairs_read, LowestMatch, walked, Demand3, Demand3Holds, Demand3Last}
 use Rattle.gnu_rules.proofs.Kept.{rules, accepted_longest}
@@ -48,7 +49,7 @@ found_missing symbol probes probes' h =
 missing_refused : (probes : ℕ) (r : Refusal) → ¬ (Ok (missing_at probes) ≡ Err r)
 missing_refused probes r h = let z : ◌≡◌ {A = ℕ} 0 1 = cc in omega arith
 
-refused_accepted : (r : Refusal) (most : ℕ) → ¬ (Checked-as-Refused r ≡ Accepted most)
+refused_accepted : (r : Refusal) (most : ℕ) → ¬ (◌≡◌ {A = Result ℕ Fault} (Err (Refused r)) (Ok most))
 refused_accepted r most h = let z : ◌≡◌ {A = ℕ} 0 1 = cc in omega arith
 
 found_symbol : (i k probes probes' : ℕ) → ◌≡◌ {A = Result Lookup Refusal} (Ok (found_at (symbol_index i) probes)) (Ok (found_at (symbol_index k) probes')) → i ≡ k
@@ -167,12 +168,12 @@ module _ (class : Class) (order : Order) (p : Parts) (asked : Asked) where
 
 -- an accepted check is an accepted table, with no fault of the header, and parts that are short enough
 record Accept (class : Class) (order : Order) (p : Parts) (most : ℕ) : Type 0 where
-  table : gnu_table_check (gnu_table class order p) ≡ Accepted most
+  table : gnu_table_check (gnu_table class order p) ≡ Ok most
   header : gnu_fault class order p.table ≡ none
   short : any_long (p.table ∷ p.symbols ∷ p.strings ∷ []) ≡ false
 
 accept : (class : Class) (order : Order) (p : Parts) (most : ℕ)
-    → gnu_check class order p.table p.symbols p.strings ≡ Accepted most → Accept class order p most
+    → gnu_check class order p.table p.symbols p.strings ≡ Ok most → Accept class order p most
 unfolding gnu_check
 accept class order p most h =
     by-test (any_long (p.table ∷ p.symbols ∷ p.strings ∷ []))
@@ -180,7 +181,7 @@ accept class order p most h =
     (λ short. go (gnu_fault class order p.table) refl short (rw short at h))
   where
     go : (o : Option Refusal) → gnu_fault class order p.table ≡ o → any_long (p.table ∷ p.symbols ∷ p.strings ∷ []) ≡ false
-        → unless_refused Checked-as-Refused o (gnu_table_check (gnu_table class order p)) ≡ Accepted most → Accept class order p most
+        → unless_refused (λ r. Err (Refused r)) o (gnu_table_check (gnu_table class order p)) ≡ Ok most → Accept class order p most
     go none none_there short h = record { table = h; header = none_there; short = short }
     go (some r) there short h = absurd (refused_accepted r most h)
 

@@ -16,7 +16,7 @@ use Rattle.strings.proofs.Meaning.{false_true}
 use Rattle.lookup.specs.Pick.{from, first_of, is_none}
 use Rattle.lookup.proofs.Picking.{All, all_map, from_all, none_first_of, first_of_passes, and_left, and_right, not_none}
 use Rattle.gnu_table.specs.Table.{GnuTable, hashed}
-use Rattle.gnu_rules.specs.declared.Checked.TheVariants.{Accepted}
+use Rattle.std.specs.Prelude.{Ok}
 use Rattle.gnu_rules.specs.Rules.{verdict, longest, gnu_table_check, findings, whole, lowest, power_of_two, base_within, some_bucket, shift_within, enough_values, name_readable, value_is_hash, bloom_bits_set, bucket_right, ends_at_last}
 
 pub record Rules (t : GnuTable) : Type 0 where
@@ -33,7 +33,7 @@ pub record Rules (t : GnuTable) : Type 0 where
   pub ended : (i : ℕ) → t.base ≤ i → i < t.count → ends_at_last t i ≡ true
 
 -- no finding before the end
-none_found : (most k n : ℕ) (xs : List (Option ℕ)) → verdict most k xs ≡ Accepted n → All (λ o. o ≡ none) xs × (most ≡ n)
+none_found : (most k n : ℕ) (xs : List (Option ℕ)) → verdict most k xs ≡ Ok n → All (λ o. o ≡ none) xs × (most ≡ n)
 unfolding verdict
 none_found most k n [] h = (tt, cc)
 none_found most k n (none ∷ xs) h = let r = none_found most (suc k) n xs h in ((refl, r.0), r.1)
@@ -60,10 +60,10 @@ power_low n h = go (first_of (λ k. eqb n (2 ^ k)) (from 0 32)) refl h
     go none e h = false_true h
     go (some k) e h = rw (eqb-true n (2 ^ k) (first_of_passes (λ k. eqb n (2 ^ k)) (from 0 32) k e)) (pow_pos k)
 
-pub accepted_longest : (t : GnuTable) (n : ℕ) → gnu_table_check t ≡ Accepted n → longest t ≡ n
+pub accepted_longest : (t : GnuTable) (n : ℕ) → gnu_table_check t ≡ Ok n → longest t ≡ n
 accepted_longest t n h = (none_found (longest t) 1 n (findings t) h).1
 
-pub rules : (t : GnuTable) (most : ℕ) → gnu_table_check t ≡ Accepted most → Rules t
+pub rules : (t : GnuTable) (most : ℕ) → gnu_table_check t ≡ Ok most → Rules t
 unfolding findings
 rules t most h =
     let n = (none_found (longest t) 1 most (findings t) h).0 in

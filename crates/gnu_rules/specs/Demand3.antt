@@ -23,7 +23,6 @@ use Rattle.lookup.specs.Wanted.{Parts, Asked, wanted, found as found_at, missing
 use Rattle.gnu_table.specs.Table.{value_of, same_but_low, bloom_filter}
 use Rattle.gnu.specs.Lookup.{gnu_chain, start_of}
 use Rattle.gnu.specs.Find.{gnu_table, gnu_find}
-use Rattle.gnu_rules.specs.declared.Checked.TheVariants.{Accepted}
 use Rattle.gnu_rules.specs.Rules.{gnu_check}
 
 abbrev pub probes_of : Result Lookup Refusal → ℕ
@@ -73,7 +72,7 @@ module _ (class : Class) (order : Order) (p : Parts) (asked : Asked) where
 -- table and any need, all within the size limit
 abbrev pub Demand3Holds : Type 0
 Demand3Holds = (class : Class) (order : Order) (p : Parts) (most : ℕ)
-    → gnu_check class order p.table p.symbols p.strings ≡ Accepted most
+    → gnu_check class order p.table p.symbols p.strings ≡ Ok most
     → (asked : Asked) → any_long (p.versyms ∷ p.version_strings ∷ asked.name ∷ asked.need_name ∷ []) ≡ false
     → Demand3 class order p asked most (gnu_find class order p asked (gnu_hash asked.name))
 

@@ -15,7 +15,7 @@
 --     gnu_table_check                        what the checker gives of a table
 --     gnu_check                              the same of the bytes: part too long (1), the table's places (26 to 28), then the rules
 -- Assumes nothing.
-use Rattle.std.specs.Prelude.{ℕ, suc, ◌-◌, ◌%◌, ◌^◌, Bool, cond, not, ◌&&◌, List, [], ◌∷◌, map, leb, eqb, length}
+use Rattle.std.specs.Prelude.{ℕ, suc, ◌-◌, ◌%◌, ◌^◌, Bool, cond, not, ◌&&◌, List, [], ◌∷◌, map, leb, eqb, length, Result, Ok, Err}
 use Rattle.std.specs.Bool.{beq}
 use Rattle.std.proofs.Math.Option.{Option, some, none, get_or}
 use Rattle.endian.specs.declared.kinds.Class.{Class}
@@ -27,8 +27,8 @@ use Rattle.lookup.specs.Pick.{from, select, first_of, largest, is_none}
 use Rattle.gnu_table.specs.Table.{GnuTable, hashed, value_of, odd, same_but_low, bloom_first, bloom_second}
 use Rattle.gnu_table.specs.Layout.{gnu_table_of}
 use Rattle.gnu_table.specs.Header.{gnu_fault}
-use Rattle.gnu_rules.specs.declared.Checked.{Checked}
-use Rattle.gnu_rules.specs.declared.Checked.TheVariants.{Accepted, Broken, Refused}
+use Rattle.gnu_rules.specs.declared.Fault.{Fault}
+use Rattle.gnu_rules.specs.declared.Fault.TheVariants.{Broken, Refused}
 
 module _ (t : GnuTable) where
   -- the hash of a symbol's name; of one that cannot be read, that of the empty name (G6 is broken there)
@@ -120,16 +120,16 @@ findings t =
 unfoldable pub longest : GnuTable → ℕ
 longest t = largest (map (λ b. length (members t b)) (from 0 t.bucket_count))
 
--- of the findings from rule k on: the first broken rule with its place; accepted where none is
-unfoldable pub verdict : (most k : ℕ) → List (Option ℕ) → Checked
-verdict most k [] = Accepted most
+-- of the findings from rule k on: the first broken rule with its place; where none is, accepted with the longest chain
+unfoldable pub verdict : (most k : ℕ) → List (Option ℕ) → Result ℕ Fault
+verdict most k [] = Ok most
 verdict most k (none ∷ rest) = verdict most (suc k) rest
-verdict most k (some place ∷ rest) = Broken k place
+verdict most k (some place ∷ rest) = Err (Broken k place)
 
-abbrev pub gnu_table_check : GnuTable → Checked
+abbrev pub gnu_table_check : GnuTable → Result ℕ Fault
 gnu_table_check t = verdict (longest t) 1 (findings t)
 
-unfoldable pub gnu_check : Class → Order → (table symbols strings : List ℕ) → Checked
+unfoldable pub gnu_check : Class → Order → (table symbols strings : List ℕ) → Result ℕ Fault
 gnu_check class order table symbols strings =
-    cond (any_long (table ∷ symbols ∷ strings ∷ [])) (Refused too_long)
-    (unless_refused Refused (gnu_fault class order table) (gnu_table_check (gnu_table_of class order table symbols strings)))
+    cond (any_long (table ∷ symbols ∷ strings ∷ [])) (Err (Refused too_long))
+    (unless_refused (λ r. Err (Refused r)) (gnu_fault class order table) (gnu_table_check (gnu_table_of class order table symbols strings)))

@@ -1,20 +1,23 @@
--- The marks, by both counts of definitions. Assumes nothing.
-use Prim.Native.Nat.{ℕ}
-use mathlib.Core.Path.{◌≡◌}
-use mathlib.Core.Bool.{Bool, true, false, cond}
-use Rattle.endian.specs.Refusals.{too_long}
-use Rattle.definitions.specs.declared.Definitions.{Definitions}
-use Rattle.definitions.specs.declared.Definitions.TheVariants.{Count, Refused as Count-as-Refused}
-use Rattle.marks.specs.declared.MarksAt.{MarksAt}
-use Rattle.marks.specs.declared.MarksAt.TheVariants.{Refused}
+-- The marks, by both counts of definitions: each is refused where a part is too long, and only there.
+--     long_told     where one was refused
+--     short_told    where both were made
+-- Assumes nothing.
+use Rattle.std.proofs.Common.{◌≡◌, ℕ, Bool, true, false, cond, Result, Ok, Err, refl, ap, ◌∙◌}
+use Rattle.endian.specs.declared.refusals.Refusal.{Refusal}
+use Rattle.marks.specs.declared.Marks.{Marks}
 
-abbrev pub marks_both : (ℕ → ℕ → MarksAt) → (all bare : Definitions) → MarksAt
-marks_both f (Count-as-Refused r) bare = Refused too_long
-marks_both f (Count a) (Count-as-Refused r) = Refused too_long
-marks_both f (Count a) (Count b) = f a b
+pub long_told : (long : Bool) (a : ℕ) (refused r : Refusal) (marks : Result Marks Refusal)
+    → Err r ≡ cond {A = Result ℕ Refusal} long (Err refused) (Ok a)
+    → Err r ≡ cond long (Err refused) marks
+long_told true a refused r marks h = let z : r ≡ refused = cc in ap (λ x. Err x) z
+long_told false a refused r marks h = cc
 
-pub marks_told : (f : ℕ → ℕ → MarksAt) (long : Bool) (a b : ℕ) (all bare : Definitions)
-    → all ≡ cond long (Count-as-Refused too_long) (Count a) → bare ≡ cond long (Count-as-Refused too_long) (Count b)
-    → marks_both f all bare ≡ cond long (Refused too_long) (f a b)
-marks_told f true a b all bare e e' = rw e
-marks_told f false a b all bare e e' = rw (e, e')
+pub short_told : (long : Bool) (a b m n : ℕ) (refused : Refusal) (marks : ℕ → ℕ → Result Marks Refusal)
+    → Ok m ≡ cond {A = Result ℕ Refusal} long (Err refused) (Ok a)
+    → Ok n ≡ cond {A = Result ℕ Refusal} long (Err refused) (Ok b)
+    → marks m n ≡ cond long (Err refused) (marks a b)
+short_told true a b m n refused marks h k = cc
+short_told false a b m n refused marks h k =
+    let y : m ≡ a = cc in
+    let z : n ≡ b = cc in
+    rw (y, z)

@@ -1,24 +1,23 @@
 -- The marks of an import: what is against signing it, beside document 01's answer.
 --     no_entry_marks                      where no symbol is found
---     marks_by, found_marks, marks_for    of a need, the counts and an answer
+--     marks_by, found_marks, marks_with, marks_for    of a need, the counts and an answer
 --     marks_of                            of an import and its answer; 1 for a part or a name too long
 --     any_mark                            whether the line is not to be signed
 -- Assumes nothing.
-use Rattle.std.specs.Prelude.{ℕ, Bool, false, cond, ◌||◌, List, [], ◌∷◌, ltb}
+use Rattle.std.specs.Prelude.{ℕ, Bool, false, cond, ◌||◌, List, [], ◌∷◌, ltb, Result, Ok, Err, Option, Some, None}
 use Rattle.endian.specs.declared.kinds.Class.{Class}
 use Rattle.endian.specs.declared.kinds.Order.{Order}
 use Rattle.endian.specs.Refusals.{any_long, too_long}
 use Rattle.marks_entry.specs.declared.EntryMarks.{EntryMarks}
 use Rattle.marks_entry.specs.Marks.{entry_marks, any_entry_mark}
-use Rattle.symbol.specs.declared.table.SymbolAt.{SymbolAt}
-use Rattle.symbol.specs.declared.table.SymbolAt.TheVariants.{At as Symbol-as-At, Refused as Symbol-as-Refused}
+use Rattle.endian.specs.declared.refusals.Refusal.{Refusal}
+use Rattle.symbol_entry.specs.declared.Symbol.{Symbol}
+use Rattle.symbol.specs.declared.table.SymbolIndex.{SymbolIndex}
 use Rattle.symbol.specs.Table.{symbol_at, symbols_in}
 use Rattle.version_match.specs.declared.Need.{Need}
-use Rattle.lookup.specs.declared.Answer.{Answer}
+use Rattle.lookup.specs.declared.Lookup.{Lookup}
 use Rattle.definitions.specs.declared.Which.TheVariants.{All, Unversioned}
 use Rattle.marks.specs.declared.Marks.{Marks}
-use Rattle.marks.specs.declared.MarksAt.{MarksAt}
-use Rattle.marks.specs.declared.MarksAt.TheVariants.{At, Refused}
 use Rattle.definitions.specs.Definitions.{defines_in, count_in}
 
 abbrev pub no_entry_marks : EntryMarks
@@ -31,22 +30,27 @@ marks_by Need.Any definitions unversioned unfound found =
 marks_by (Need.Hash hash) definitions unversioned unfound found =
     record { several = false; unversioned = ltb 0 unversioned; unfound = unfound; found = found }
 
-abbrev pub found_marks : Need → (definitions unversioned : ℕ) → SymbolAt → MarksAt
-found_marks need definitions unversioned (Symbol-as-At symbol) =
-    At (marks_by need definitions unversioned false (entry_marks symbol))
-found_marks need definitions unversioned (Symbol-as-Refused r) = Refused r
+abbrev pub found_marks : Need → (definitions unversioned : ℕ) → Result Symbol Refusal → Result Marks Refusal
+found_marks need definitions unversioned (Ok symbol) = Ok (marks_by need definitions unversioned false (entry_marks symbol))
+found_marks need definitions unversioned (Err r) = Err r
 
-abbrev pub marks_for : Class → Order → (symbols : List ℕ) → Need → (definitions unversioned : ℕ) → Answer → MarksAt
-marks_for class order symbols need definitions unversioned (Answer.Found symbol probes) =
+abbrev pub marks_with : Class → Order → (symbols : List ℕ) → Need → (definitions unversioned : ℕ) → Option SymbolIndex
+    → Result Marks Refusal
+marks_with class order symbols need definitions unversioned (Some symbol) =
     found_marks need definitions unversioned (symbol_at class order symbols symbol)
-marks_for class order symbols need definitions unversioned (Answer.Missing probes) =
-    At (marks_by need definitions unversioned (ltb 0 definitions) no_entry_marks)
-marks_for class order symbols need definitions unversioned (Answer.Refused r) = Refused r
+marks_with class order symbols need definitions unversioned None =
+    Ok (marks_by need definitions unversioned (ltb 0 definitions) no_entry_marks)
 
-unfoldable pub marks_of : Class → Order → (symbols strings versyms name : List ℕ) → Need → Answer → MarksAt
+abbrev pub marks_for : Class → Order → (symbols : List ℕ) → Need → (definitions unversioned : ℕ) → Result Lookup Refusal
+    → Result Marks Refusal
+marks_for class order symbols need definitions unversioned (Ok lookup) =
+    marks_with class order symbols need definitions unversioned lookup.symbol
+marks_for class order symbols need definitions unversioned (Err r) = Err r
+
+unfoldable pub marks_of : Class → Order → (symbols strings versyms name : List ℕ) → Need → Result Lookup Refusal → Result Marks Refusal
 marks_of class order symbols strings versyms name need answer =
     let symbol_count = symbols_in class symbols in
-    cond (any_long (strings ∷ versyms ∷ name ∷ symbols ∷ [])) (Refused too_long)
+    cond (any_long (strings ∷ versyms ∷ name ∷ symbols ∷ [])) (Err too_long)
     (marks_for class order symbols need
     (count_in (defines_in class order symbols strings versyms name All) symbol_count)
     (count_in (defines_in class order symbols strings versyms name Unversioned) symbol_count)

@@ -3,20 +3,20 @@
 #![tactic(auto)]
 
 ghost use Rattle.std.specs.Prelude.{◌≡◌};
-ghost use Rattle.marks.specs.Marks.{no_entry_marks, marks_by, marks_for, marks_of, any_mark};
+ghost use Rattle.marks.specs.Marks.{marks_by, marks_for, marks_of, any_mark};
 
-use definitions::{Definitions, Which, definitions_of};
+use definitions::{Which, definitions_of};
 use endian::kinds::{Class, Order};
-use endian::refusals::{Refusal, TOO_LONG};
-use lookup::Answer;
+use endian::refusals::Refusal;
+use lookup::Lookup;
 use marks_entry::{EntryMarks, entry_marks};
-use symbol::table::{SymbolAt, symbol_at};
+use symbol::table::symbol_at;
 use version_match::Need;
 
 // Several: no version is stated, and the library holds more than one definition of the name.
 // Unversioned: a version is stated, and the library holds a definition of the name without one.
 // Unfound: nothing is found, while the library holds a definition of the name.
-#[derive(Clone, Copy)]
+#[derive(Clone, Copy, Debug, PartialEq, Eq)]
 pub struct Marks {
     pub several: bool,
     pub unversioned: bool,
@@ -24,39 +24,12 @@ pub struct Marks {
     pub found: EntryMarks,
 }
 
-#[derive(Clone, Copy)]
-pub enum MarksAt {
-    At(Marks),
-    Refused(Refusal),
-}
-
 impl Marks {
     // Whether the line is not to be signed.
     pub fn any(self) -> bool
         ensures { result ≡ any_mark self }
     {
-        if self.several {
-            return true;
-        }
-        if self.unversioned {
-            return true;
-        }
-        if self.unfound {
-            return true;
-        }
-        let found = self.found;
-        found.any()
-    }
-}
-
-fn no_entry_marks() -> EntryMarks
-    ensures { result ≡ no_entry_marks }
-{
-    EntryMarks {
-        undefined: false,
-        local: false,
-        hidden: false,
-        ifunc: false,
+        self.several || self.unversioned || self.unfound || self.found.any()
     }
 }
 
@@ -73,14 +46,14 @@ fn marks_by(
         Need::Any => Marks {
             several: 1 < definitions,
             unversioned: false,
-            unfound: unfound,
-            found: found,
+            unfound,
+            found,
         },
         Need::Hash(_) => Marks {
             several: false,
             unversioned: 0 < unversioned,
-            unfound: unfound,
-            found: found,
+            unfound,
+            found,
         },
     }
 }
@@ -93,29 +66,22 @@ fn marks_for(
     need: Need,
     definitions: u32,
     unversioned: u32,
-    answer: Answer,
-) -> MarksAt
+    answer: Result<Lookup, Refusal>,
+) -> Result<Marks, Refusal>
     ensures { result ≡ marks_for class order symbols.now need definitions unversioned answer }
 {
-    match answer {
-        Answer::Found(symbol, _) => match symbol_at(class, order, symbols, symbol) {
-            SymbolAt::At(entry) => MarksAt::At(marks_by(
-                need,
-                definitions,
-                unversioned,
-                false,
-                entry_marks(entry),
-            )),
-            SymbolAt::Refused(refusal) => MarksAt::Refused(refusal),
-        },
-        Answer::Missing(_) => MarksAt::At(marks_by(
+    match answer?.symbol {
+        Some(symbol) => {
+            let entry = symbol_at(class, order, symbols, symbol)?;
+            Ok(marks_by(need, definitions, unversioned, false, entry_marks(entry)))
+        }
+        None => Ok(marks_by(
             need,
             definitions,
             unversioned,
             0 < definitions,
-            no_entry_marks(),
+            EntryMarks::default(),
         )),
-        Answer::Refused(refusal) => MarksAt::Refused(refusal),
     }
 }
 
@@ -129,17 +95,14 @@ pub fn marks_of(
     versyms: &[u8],
     name: &[u8],
     need: Need,
-    answer: Answer,
-) -> MarksAt
+    answer: Result<Lookup, Refusal>,
+) -> Result<Marks, Refusal>
     ensures { result
         ≡ marks_of class order symbols.now strings.now versyms.now name.now need
         answer }
 {
-    let all = definitions_of(class, order, symbols, strings, versyms, name, Which::All);
-    let Definitions::Count(definitions) = all else {
-        return MarksAt::Refused(TOO_LONG);
-    };
-    let bare = definitions_of(
+    let definitions = definitions_of(class, order, symbols, strings, versyms, name, Which::All)?;
+    let unversioned = definitions_of(
         class,
         order,
         symbols,
@@ -147,10 +110,7 @@ pub fn marks_of(
         versyms,
         name,
         Which::Unversioned,
-    );
-    let Definitions::Count(unversioned) = bare else {
-        return MarksAt::Refused(TOO_LONG);
-    };
+    )?;
     marks_for(
         class,
         order,

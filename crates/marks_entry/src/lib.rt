@@ -14,7 +14,7 @@ pub const STV_HIDDEN: u8 = 2;
 
 pub const STT_GNU_IFUNC: u8 = 10;
 
-#[derive(Clone, Copy)]
+#[derive(Clone, Copy, Debug, Default, PartialEq, Eq)]
 pub struct EntryMarks {
     pub undefined: bool,
     pub local: bool,
@@ -27,26 +27,14 @@ impl EntryMarks {
     pub fn any(self) -> bool
         ensures { result ≡ any_entry_mark self }
     {
-        if self.undefined {
-            return true;
-        }
-        if self.local {
-            return true;
-        }
-        if self.hidden {
-            return true;
-        }
-        self.ifunc
+        self.undefined || self.local || self.hidden || self.ifunc
     }
 }
 
 fn is_hidden(visibility: u8) -> bool
     ensures { result ≡ is_hidden visibility }
 {
-    if visibility == STV_INTERNAL {
-        return true;
-    }
-    visibility == STV_HIDDEN
+    visibility == STV_INTERNAL || visibility == STV_HIDDEN
 }
 
 pub fn entry_marks(symbol: Symbol) -> EntryMarks

@@ -5,56 +5,48 @@
 --     Passing                                      a pass that stands at a bucket, with so many steps left: the buckets that are left give the answer
 --     passing_start, _wrong, _on, _end             at its start; a chain with something wrong; a chain without; after the last
 -- Assumes nothing.
-use mathlib.Core.Path.{◌≡◌, refl, sym, ap, ◌∙◌}
-use mathlib.Core.Bool.{Bool, true, false, ◌&&◌}
-use mathlib.Core.List.{List, [], ◌∷◌}
-use mathlib.Core.Option.{Option, some, none}
-use Prim.Native.Nat.{ℕ, zero, suc, ◌+◌, ◌-◌, ◌≤◌, ◌<◌}
 use native.Mathlib.Numerals.{add-one}
-use native.Mathlib.Omega.{arith}
-use lib.Dec.{leb, ltb, eqb}
+use Rattle.std.proofs.Common.{◌≡◌, ℕ, zero, suc, ◌+◌, ◌-◌, ◌≤◌, ◌<◌, Bool, true, false, ◌&&◌, List, [], ◌∷◌, leb, ltb, eqb, Option, Some, None, is_some, refl, sym, ap, ◌∙◌, arith}
 use borrow.Author.Tests.{ne_eqb}
 use Rattle.lookup.specs.Pick.{from}
 use Rattle.lookup.proofs.Picking.{by-test, and_left, and_right}
-use Rattle.sysv_check_chains.specs.declared.chains.Steps.{Steps}
-use Rattle.sysv_check_chains.specs.declared.chains.Steps.TheVariants.{Left, Wrong}
-use Rattle.sysv_check_chains.specs.Pass.{in_range, may_stand, steps_of, ended, follow, follow_all, spent, all_spent}
+use Rattle.sysv_check_chains.specs.Pass.{in_range, may_stand, follow, follow_all, spent, all_spent}
 
 module _ (chain : ℕ → ℕ) (may : ℕ → Bool) (left start : ℕ) where
-  abbrev along : Steps
-  along = steps_of (follow chain may left start)
+  abbrev along : Option ℕ
+  along = follow chain may left start
 
   unfoldable pub Following : (i k : ℕ) → Type 0
-  Following i k = steps_of (follow chain may k i) ≡ along
+  Following i k = follow chain may k i ≡ along
 
   pub following_start : Following start left
   unfolding Following
   following_start = refl
 
-  at_zero : (k : ℕ) → follow chain may k 0 ≡ some k
+  at_zero : (k : ℕ) → follow chain may k 0 ≡ Some k
   unfolding follow
   at_zero zero = refl
   at_zero (suc k) = refl
 
   module _ (i k : ℕ) (at : Following i k) where
-    pub following_zero : i ≡ 0 → Left k ≡ along
+    pub following_zero : i ≡ 0 → Some k ≡ along
     unfolding Following
-    following_zero z = ap steps_of (sym (at_zero k)) ∙ (rw z at at)
+    following_zero z = sym (at_zero k) ∙ (rw z at at)
 
     module _ (there : ¬ (i ≡ 0)) where
-      pub following_spent : k ≡ 0 → Wrong ≡ along
+      pub following_spent : k ≡ 0 → None ≡ along
       unfolding Following follow
       following_spent none_left = by k none_left at
         where
-          by : (k : ℕ) → k ≡ 0 → steps_of (follow chain may k i) ≡ along → Wrong ≡ along
+          by : (k : ℕ) → k ≡ 0 → follow chain may k i ≡ along → None ≡ along
           by zero e h = sym (rw (ne_eqb i 0 there)) ∙ h
           by (suc k) e h = absurd (omega arith)
 
-      pub following_bad : may i ≡ false → Wrong ≡ along
+      pub following_bad : may i ≡ false → None ≡ along
       unfolding Following follow
       following_bad bad = by k at
         where
-          by : (k : ℕ) → steps_of (follow chain may k i) ≡ along → Wrong ≡ along
+          by : (k : ℕ) → follow chain may k i ≡ along → None ≡ along
           by zero h = sym (rw (ne_eqb i 0 there)) ∙ h
           by (suc k) h = sym (rw (ne_eqb i 0 there, bad)) ∙ h
 
@@ -62,13 +54,13 @@ module _ (chain : ℕ → ℕ) (may : ℕ → Bool) (left start : ℕ) where
       unfolding Following follow
       following_on more good = by k more at
         where
-          by : (k : ℕ) → 0 < k → steps_of (follow chain may k i) ≡ along → steps_of (follow chain may (k - 1) (chain i)) ≡ along
+          by : (k : ℕ) → 0 < k → follow chain may k i ≡ along → follow chain may (k - 1) (chain i) ≡ along
           by zero m h = absurd (omega arith)
           by (suc k) m h = let s : suc k - 1 ≡ k = omega arith in rw s (rw (ne_eqb i 0 there, good) at h)
 
 -- a walk that goes wrong by one test goes wrong by every stricter one
-stricter : (chain : ℕ → ℕ) (p q : ℕ → Bool) → ((i : ℕ) → q i ≡ true → p i ≡ true) → (k i : ℕ) → follow chain p k i ≡ none
-    → follow chain q k i ≡ none
+stricter : (chain : ℕ → ℕ) (p q : ℕ → Bool) → ((i : ℕ) → q i ≡ true → p i ≡ true) → (k i : ℕ) → follow chain p k i ≡ None
+    → follow chain q k i ≡ None
 unfolding follow
 stricter chain p q weak zero i h = h
 stricter chain p q weak (suc k) i h =
@@ -78,17 +70,9 @@ stricter chain p q weak (suc k) i h =
     (λ g. rw (e, g) (stricter chain p q weak k (chain i) (rw (e, weak i g) at h)))
     (λ g. rw (e, g)))
 
-steps_none : (o : Option ℕ) → steps_of o ≡ Wrong → o ≡ none
-steps_none none h = refl
-steps_none (some k) h = cc
-
-steps_some : (o : Option ℕ) (k : ℕ) → steps_of o ≡ Left k → o ≡ some k
-steps_some none k h = cc
-steps_some (some j) k h = let z : j ≡ k = cc in ap (λ x. some x) z
-
-not_ended : (o : Option ℕ) → ended (steps_of o) ≡ false → o ≡ none
-not_ended none h = refl
-not_ended (some k) h = cc
+not_ended : (o : Option ℕ) → is_some o ≡ false → o ≡ None
+not_ended None h = refl
+not_ended (Some k) h = cc
 
 ranged : (home : ℕ → ℕ) (low count b i : ℕ) → may_stand home low count b i ≡ true → in_range low count i ≡ true
 ranged home low count b i h =
@@ -96,11 +80,11 @@ ranged home low count b i h =
     rw (and_left (leb low i) (ltb i count && eqb (home i) b) h, and_left (ltb i count) (eqb (home i) b) rest)
 
 pub range_wrong : (chain home : ℕ → ℕ) (low count b k i : ℕ)
-    → ended (steps_of (follow chain (in_range low count) k i)) ≡ false
-    → steps_of (follow chain (may_stand home low count b) k i) ≡ Wrong
+    → is_some (follow chain (in_range low count) k i) ≡ false
+    → follow chain (may_stand home low count b) k i ≡ None
 range_wrong chain home low count b k i h =
-    ap steps_of (stricter chain (in_range low count) (may_stand home low count b) (ranged home low count b) k i
-    (not_ended (follow chain (in_range low count) k i) h))
+    stricter chain (in_range low count) (may_stand home low count b) (ranged home low count b) k i
+    (not_ended (follow chain (in_range low count) k i) h)
 
 module _ (chain bucket : ℕ → ℕ) (may : (b i : ℕ) → Bool) (buckets steps : ℕ) where
   abbrev whole : Bool
@@ -111,13 +95,13 @@ module _ (chain bucket : ℕ → ℕ) (may : (b i : ℕ) → Bool) (buckets step
   rest b o = spent (follow_all chain bucket may (from b (buckets - b)) o)
 
   unfoldable pub Passing : (b k : ℕ) → Type 0
-  Passing b k = rest b (some k) ≡ whole
+  Passing b k = rest b (Some k) ≡ whole
 
   pub passing_start : Passing 0 steps
   unfolding Passing
   passing_start = let z : buckets - 0 ≡ buckets = omega arith in rw z
 
-  none_on : (bs : List ℕ) → follow_all chain bucket may bs none ≡ none
+  none_on : (bs : List ℕ) → follow_all chain bucket may bs None ≡ None
   unfolding follow_all
   none_on [] = refl
   none_on (b ∷ bs) = none_on bs
@@ -127,24 +111,22 @@ module _ (chain bucket : ℕ → ℕ) (may : (b i : ℕ) → Bool) (buckets step
     unfolding Passing follow_all
     passing_end done =
         let z : buckets - b ≡ 0 = omega arith in
-        let last : rest b (some k) ≡ eqb k 0 = rw z in
+        let last : rest b (Some k) ≡ eqb k 0 = rw z in
         sym last ∙ at
 
     module _ (more : b < buckets) where
-      next : rest b (some k) ≡ rest (b + 1) (follow chain (may b) k (bucket b))
+      next : rest b (Some k) ≡ rest (b + 1) (follow chain (may b) k (bucket b))
       unfolding follow_all
       next = let s : buckets - b ≡ suc (buckets - (b + 1)) = omega arith in rw (s, add-one b)
 
-      pub passing_wrong : steps_of (follow chain (may b) k (bucket b)) ≡ Wrong → false ≡ whole
+      pub passing_wrong : follow chain (may b) k (bucket b) ≡ None → false ≡ whole
       unfolding Passing
       passing_wrong wrong =
-          let e = steps_none (follow chain (may b) k (bucket b)) wrong in
-          let ends : rest b (some k) ≡ false = next ∙ (rw (e, none_on (from (b + 1) (buckets - (b + 1))))) in
+          let ends : rest b (Some k) ≡ false = next ∙ (rw (wrong, none_on (from (b + 1) (buckets - (b + 1))))) in
           sym ends ∙ at
 
-      pub passing_on : (j : ℕ) → steps_of (follow chain (may b) k (bucket b)) ≡ Left j → Passing (b + 1) j
+      pub passing_on : (j : ℕ) → follow chain (may b) k (bucket b) ≡ Some j → Passing (b + 1) j
       unfolding Passing
       passing_on j left =
-          let e = steps_some (follow chain (may b) k (bucket b)) j left in
-          let on : rest b (some k) ≡ rest (b + 1) (some j) = next ∙ (rw e) in
+          let on : rest b (Some k) ≡ rest (b + 1) (Some j) = next ∙ (rw left) in
           sym on ∙ at

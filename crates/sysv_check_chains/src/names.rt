@@ -6,20 +6,17 @@ ghost use Rattle.lookup.specs.Wanted.{name_of};
 ghost use Rattle.sysv_check_chains.specs.Hash.{sysv_hash_at};
 
 use endian::kinds::{Class, Order};
-use name_hash::{NameHash, sysv_hash};
-use strings::StringAt;
+use name_hash::sysv_hash;
+use strings::Place;
 use symbol::table::{SymbolIndex, symbol_name};
 
 // The hash of a part of the strings.
-fn part_hash(strings: &[u8], start: usize, len: usize) -> u32
-    requires { (start + len ≤ length strings.now) × (length strings.now ≤ limit) }
-    ensures { result ≡ sysv_hash (take len (drop start strings.now)) }
+fn part_hash(strings: &[u8], place: Place) -> u32
+    requires { (place.start + place.len ≤ length strings.now) × (length strings.now ≤ limit) }
+    ensures { result ≡ sysv_hash (take place.len (drop place.start strings.now)) }
 {
-    let end = start + len;
-    match sysv_hash(&strings[start..end]) {
-        NameHash::Hash(hash) => hash,
-        NameHash::Refused(_) => 0,
-    }
+    let end = place.start + place.len;
+    sysv_hash(&strings[place.start..end]).unwrap()
 }
 
 // The hash of a symbol's name; of one that cannot be read, that of the empty name.
@@ -33,7 +30,7 @@ pub(crate) fn symbol_hash(
     ensures { result ≡ sysv_hash_at (name_of class order symbols.now strings.now) symbol.0 }
 {
     match symbol_name(class, order, symbols, strings, symbol) {
-        StringAt::At { start, len } => part_hash(strings, start, len),
-        StringAt::Refused(_) => 0,
+        Ok(place) => part_hash(strings, place),
+        Err(_) => 0,
     }
 }
