@@ -16,6 +16,7 @@ use lookup::{Asked, Lookup, Parts, smaller};
 use symbol::table::symbol_count;
 
 // The lookup by a layout: the bloom filter, the start, the walk.
+#[tactic(auto, using(crate::proofs::Finds::filter_any, crate::proofs::Lookups::start_range, crate::proofs::Lookups::lookup_stops, crate::proofs::Lookups::lookup_refuses, crate::proofs::Lookups::lookup_nowhere))]
 fn lookup_at(
     class: Class,
     order: Order,

@@ -58,6 +58,7 @@ impl<'a> Parts<'a> {
 }
 
 // Whether a symbol's name can be read and is the name. Number 0, or one with no whole record, has none.
+#[tactic(auto, using(crate::proofs::Named::named_at_lem))]
 pub fn has_name(
     class: Class,
     order: Order,
