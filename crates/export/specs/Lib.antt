@@ -1,4 +1,5 @@
 pub mod Answers
 pub mod Kinds
+pub mod Known
 pub mod Lookups
 pub mod Parts

@@ -1,11 +1,12 @@
 // What the lookups in both hash tables answer to C.
-ghost use Rattle.std.specs.Prelude.{◌≡◌, [], ◌∷◌, Err};
+ghost use Rattle.std.specs.Prelude.{◌≡◌, Err};
+ghost use Rattle.lookup.specs.Lent.{parts_of, asked_of};
+ghost use Rattle.lookup.specs.Wanted.{all_parts};
 ghost use Rattle.export.specs.Kinds.{kind_refusal};
 ghost use Rattle.export.specs.Lookups.{lookup_answer};
 
-use super::kinds::unless_long;
-use endian::refusals::{Refusal, UNKNOWN_KIND};
-use lookup::Lookup;
+use endian::refusals::{Refusal, TOO_LONG, UNKNOWN_KIND};
+use lookup::{Asked, Lookup, Parts};
 
 // What a lookup gives: found is 1 with a symbol, and 0 without.
 #[repr(C)]
@@ -38,24 +39,14 @@ pub fn lookup_answer(answer: Result<Lookup, Refusal>) -> LookupAnswer
 }
 
 // The answer of either lookup where a number is no class or no order.
-pub fn unknown_lookup(
-    table: &[u8],
-    symbols: &[u8],
-    strings: &[u8],
-    versyms: &[u8],
-    version_strings: &[u8],
-    name: &[u8],
-    need_name: &[u8],
-) -> LookupAnswer
+#[tactic(auto, using(crate::proofs::Unknown::kind_refusal_parts))]
+pub fn unknown_lookup(parts: Parts, asked: Asked) -> LookupAnswer
     ensures { result
         ≡ lookup_answer
-        (Err
-        (kind_refusal
-        (table.now ∷ symbols.now ∷ strings.now ∷ versyms.now ∷ version_strings.now
-        ∷ name.now ∷ need_name.now ∷ []))) }
+        (Err (kind_refusal (all_parts (parts_of parts.entry) (asked_of asked.entry)))) }
 {
-    let names = unless_long(name, unless_long(need_name, UNKNOWN_KIND));
-    let versions = unless_long(versyms, unless_long(version_strings, names));
-    let refusal = unless_long(table, unless_long(symbols, unless_long(strings, versions)));
-    lookup_answer(Err(refusal))
+    if parts.any_long(asked) {
+        return lookup_answer(Err(TOO_LONG));
+    }
+    lookup_answer(Err(UNKNOWN_KIND))
 }

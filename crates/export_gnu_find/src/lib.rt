@@ -10,6 +10,7 @@ use export::kinds::{are_kinds, class_of, order_of};
 use export::lookups::{LookupAnswer, lookup_answer, unknown_lookup};
 use export_version_match::need_of;
 use gnu::find::find;
+use lookup::{Asked, Parts};
 
 // The symbol of a name and a version in a GNU table.
 #[unsafe(no_mangle)]
@@ -45,29 +46,21 @@ pub extern "C" fn fetulombo_gnu_find(
         })
         hash }
 {
-    if !are_kinds(class, order) {
-        return unknown_lookup(
-            table,
-            symbols,
-            strings,
-            versyms,
-            version_strings,
-            name,
-            need_name,
-        );
-    }
-    lookup_answer(find(
-        class_of(class),
-        order_of(order),
+    let parts = Parts {
         table,
         symbols,
         strings,
         versyms,
         store,
         version_strings,
+    };
+    let asked = Asked {
         name,
-        hash,
-        need_of(needed, need_hash),
+        need: need_of(needed, need_hash),
         need_name,
-    ))
+    };
+    if !are_kinds(class, order) {
+        return unknown_lookup(parts, asked);
+    }
+    lookup_answer(find(class_of(class), order_of(order), parts, asked, hash))
 }

@@ -9,6 +9,7 @@ ghost use Rattle.export_sysv_find.specs.Answers.{sysv_answer};
 use export::kinds::{are_kinds, class_of, order_of};
 use export::lookups::{LookupAnswer, lookup_answer, unknown_lookup};
 use export_version_match::need_of;
+use lookup::{Asked, Parts};
 use sysv::find::find;
 
 // The symbol of a name and a version in a SysV table.
@@ -45,29 +46,21 @@ pub extern "C" fn fetulombo_sysv_find(
         })
         hash }
 {
-    if !are_kinds(class, order) {
-        return unknown_lookup(
-            table,
-            symbols,
-            strings,
-            versyms,
-            version_strings,
-            name,
-            need_name,
-        );
-    }
-    lookup_answer(find(
-        class_of(class),
-        order_of(order),
+    let parts = Parts {
         table,
         symbols,
         strings,
         versyms,
         store,
         version_strings,
+    };
+    let asked = Asked {
         name,
-        hash,
-        need_of(needed, need_hash),
+        need: need_of(needed, need_hash),
         need_name,
-    ))
+    };
+    if !are_kinds(class, order) {
+        return unknown_lookup(parts, asked);
+    }
+    lookup_answer(find(class_of(class), order_of(order), parts, asked, hash))
 }

@@ -1,7 +1,7 @@
 // The lookup of a name, by its hash, in a GNU table.
-ghost use Rattle.std.specs.Prelude.{◌≡◌, [], ◌∷◌};
-ghost use Rattle.endian.specs.Refusals.{any_long};
+ghost use Rattle.std.specs.Prelude.{◌≡◌};
 ghost use Rattle.lookup.specs.Wanted.{wanted};
+ghost use Rattle.lookup.specs.Lent.{parts_of, asked_of};
 ghost use Rattle.gnu_table.specs.Places.{table_at};
 ghost use Rattle.gnu.specs.Lookup.{gnu_lookup};
 ghost use Rattle.gnu.specs.Find.{gnu_find};
@@ -9,78 +9,34 @@ ghost use Rattle.gnu.specs.Find.{gnu_find};
 use super::start::start_of;
 use super::walk::walk;
 use endian::kinds::{Class, Order};
-use endian::refusals::{LIMIT, Refusal, TOO_LONG};
+use endian::refusals::{Refusal, TOO_LONG};
 use gnu_table::filter::bloom_filter;
 use gnu_table::header::{Layout, header};
-use lookup::{Lookup, smaller};
+use lookup::{Asked, Lookup, Parts, smaller};
 use symbol::table::symbol_count;
-use version_match::Need;
-
-// Whether one of the parts that are only compared is too long.
-fn any_long(
-    strings: &[u8],
-    versyms: &[u8],
-    version_strings: &[u8],
-    name: &[u8],
-    need_name: &[u8],
-) -> bool
-    ensures { result
-        ≡ any_long (strings.now ∷ versyms.now ∷ version_strings.now ∷ name.now
-        ∷ need_name.now ∷ []) }
-{
-    if LIMIT < strings.len() {
-        return true;
-    }
-    if LIMIT < versyms.len() {
-        return true;
-    }
-    if LIMIT < version_strings.len() {
-        return true;
-    }
-    if LIMIT < name.len() {
-        return true;
-    }
-    LIMIT < need_name.len()
-}
 
 // The lookup by a layout: the bloom filter, the start, the walk.
 fn lookup_at(
     class: Class,
     order: Order,
-    table: &[u8],
-    symbols: &[u8],
-    strings: &[u8],
-    versyms: &[u8],
-    store: &[u32],
-    version_strings: &[u8],
-    name: &[u8],
+    parts: Parts,
+    asked: Asked,
     hash: u32,
-    need: Need,
-    need_name: &[u8],
     layout: Layout,
     count: u32,
 ) -> Result<Lookup, Refusal>
     ensures { result
-        ≡ gnu_lookup (table_at class order table.entry.now layout count) hash
-        (wanted class order
-        (record {
-          table = table.entry.now;
-          symbols = symbols.now;
-          strings = strings.now;
-          versyms = versyms.now;
-          store = store.now;
-          version_strings = version_strings.now;
-        })
-        (record { name = name.entry.now; need = need; need_name = need_name.now })) }
+        ≡ gnu_lookup (table_at class order parts.entry.table.now layout count) hash
+        (wanted class order (parts_of parts.entry) (asked_of asked.entry)) }
 {
     let nothing = Lookup {
         symbol: None,
         probes: 0,
     };
-    if !bloom_filter(class, order, table, layout, hash)? {
+    if !bloom_filter(class, order, parts.table, layout, hash)? {
         return Ok(nothing);
     }
-    let start = start_of(class, order, table, layout, count, hash);
+    let start = start_of(class, order, parts.table, layout, count, hash);
     if start == 0 {
         return Ok(nothing);
     }
@@ -89,16 +45,9 @@ fn lookup_at(
     Ok(walk(
         class,
         order,
-        table,
-        symbols,
-        strings,
-        versyms,
-        store,
-        version_strings,
-        name,
+        parts,
+        asked,
         hash,
-        need,
-        need_name,
         layout.values_at,
         base,
         start,
@@ -113,49 +62,16 @@ fn lookup_at(
 pub fn find(
     class: Class,
     order: Order,
-    table: &[u8],
-    symbols: &[u8],
-    strings: &[u8],
-    versyms: &[u8],
-    store: &[u32],
-    version_strings: &[u8],
-    name: &[u8],
+    parts: Parts,
+    asked: Asked,
     hash: u32,
-    need: Need,
-    need_name: &[u8],
 ) -> Result<Lookup, Refusal>
-    ensures { result
-        ≡ gnu_find class order
-        (record {
-          table = table.entry.now;
-          symbols = symbols.now;
-          strings = strings.now;
-          versyms = versyms.now;
-          store = store.now;
-          version_strings = version_strings.now;
-        })
-        (record { name = name.entry.now; need = need; need_name = need_name.now })
-        hash }
+    ensures { result ≡ gnu_find class order (parts_of parts.entry) (asked_of asked.entry) hash }
 {
-    if any_long(strings, versyms, version_strings, name, need_name) {
+    if parts.any_long(asked) {
         return Err(TOO_LONG);
     }
-    let count = symbol_count(class, symbols)?;
-    let layout = header(class, order, table)?;
-    lookup_at(
-        class,
-        order,
-        table,
-        symbols,
-        strings,
-        versyms,
-        store,
-        version_strings,
-        name,
-        hash,
-        need,
-        need_name,
-        layout,
-        count,
-    )
+    let count = symbol_count(class, parts.symbols)?;
+    let layout = header(class, order, parts.table)?;
+    lookup_at(class, order, parts, asked, hash, layout, count)
 }

@@ -9,6 +9,7 @@ use gnu_table::words::word_of;
 
 // The symbol number that the hash's bucket holds, or 0 where there is no bucket, or its value is 0,
 // past the symbols, below symbol_base or past the values.
+#[tactic(auto, using(crate::proofs::Lookups::start_none, crate::proofs::Lookups::start_past, crate::proofs::Lookups::start_below, crate::proofs::Lookups::start_values, crate::proofs::Lookups::start_is))]
 pub(crate) fn start_of(
     class: Class,
     order: Order,

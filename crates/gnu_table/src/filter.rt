@@ -38,6 +38,7 @@ fn bloom_word(class: Class, order: Order, table: &[u8], bloom_count: u32, hash: 
 }
 
 // Whether the bloom filter lets a hash pass. Refused: a shift above 31, where the second bit is reached.
+#[tactic(auto, using(crate::proofs::Filters::filter_none, crate::proofs::Filters::filter_first, crate::proofs::Filters::filter_shift, crate::proofs::Filters::filter_is), unfolding(crate::specs::Table::bloom_first, crate::specs::Table::bloom_second))]
 pub fn bloom_filter(
     class: Class,
     order: Order,

@@ -31,6 +31,7 @@ pub(crate) fn word_size(class: Class) -> usize
 
 // The header and the places. Refused in this order: a table that is too long; one whose header,
 // bloom words or buckets are not whole.
+#[tactic(auto, using(crate::proofs::Headers::header_long, crate::proofs::Headers::header_short, crate::proofs::Headers::header_bloom, crate::proofs::Headers::header_buckets, crate::proofs::Headers::header_is))]
 pub fn header(class: Class, order: Order, table: &[u8]) -> Result<Layout, Refusal>
     ensures { result ≡ gnu_header class order table.now }
 {

@@ -1,3 +1,4 @@
+pub mod Lent
 pub mod Matches
 pub mod Pick
 pub mod Search

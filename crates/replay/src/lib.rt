@@ -2,7 +2,8 @@
 // the other.
 #![tactic(auto)]
 
-ghost use Rattle.std.specs.Prelude.{◌≤◌, IfOk};
+ghost use Rattle.std.specs.Prelude.{◌≡◌, ◌+◌, ◌≤◌, get_or, IfOk};
+ghost use Rattle.replay.specs.Part.{part_of};
 
 use std::io;
 use std::io::{ErrorKind, Read};
@@ -43,4 +44,24 @@ pub fn replay<R: Read, F: Fn(&[u8]) -> bool>(
         }
     }
     Ok(tally)
+}
+
+// A part of a record: so many bytes from a place on, or none where the record is too short.
+pub fn part(record: &[u8], start: usize, length: u8) -> &[u8]
+    ensures { result.now ≡ part_of record.now start length }
+{
+    match record.get(start..) {
+        Some(rest) => rest.get(..length as usize).unwrap_or(&[]),
+        None => &[],
+    }
+}
+
+// The same of a part whose length stands at a place, in the byte before it.
+pub fn part_at(record: &[u8], at: usize) -> &[u8]
+    ensures { result.now ≡ part_of record.now (at + 1) (get_or record.now at 0) }
+{
+    match record.get(at..) {
+        Some([length, rest @ ..]) => part(rest, 0, *length),
+        _ => &[],
+    }
 }

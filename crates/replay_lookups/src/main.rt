@@ -2,15 +2,15 @@
 // input (docs/COMPARISON.md). Prints how many there were and how many answers differ.
 #![tactic(auto)]
 
-use endian::kinds::{Class, Order};
+use endian::kinds::Order;
+use endian::refusals::Refusal;
 use export::kinds::{class_of, order_of};
-use gnu_length::TableLength;
-use lookup::Answer;
-use replay::replay;
+use lookup::{Asked, Lookup, Parts};
+use replay::{part_at, replay};
 use std::io;
-use sysv_header::length::ChainCount;
+use symbol::table::SymbolIndex;
 use version_match::Need;
-use version_parse::parse::{Parsed, parse};
+use version_parse::parse::parse;
 use word::{u8_at, u32_at};
 
 const RECORD: usize = 640;
@@ -45,164 +45,80 @@ const ANSWER: usize = 621;
 
 const LENGTH: usize = 631;
 
-// The part that stands after its length at a place, or none of it where the record is too short.
-fn part(record: &[u8], at: usize) -> &[u8] {
-    let n = u8_at(record, at) as usize;
-    if record.len() <= at {
-        return &record[0..0];
-    }
-    if record.len() - at <= n {
-        return &record[0..0];
-    }
-    let start = at + 1;
-    let end = start + n;
-    &record[start..end]
-}
-
-fn need_of(needed: u8, hash: u32) -> Need {
-    match needed {
-        0 => Need::Any,
-        _ => Need::Hash(hash),
-    }
-}
-
-fn gnu_found(record: &[u8], class: Class, order: Order, store: &[u32], need: Need) -> Answer {
-    gnu::find::find(
-        class,
-        order,
-        part(record, TABLE),
-        part(record, SYMBOLS),
-        part(record, STRINGS),
-        part(record, VERSYMS),
+// The recorded parts, with the store of the versions that were parsed.
+fn parts_of<'a>(record: &'a [u8], store: &'a [u32]) -> Parts<'a> {
+    Parts {
+        table: part_at(record, TABLE),
+        symbols: part_at(record, SYMBOLS),
+        strings: part_at(record, STRINGS),
+        versyms: part_at(record, VERSYMS),
         store,
-        part(record, VERSION_STRINGS),
-        part(record, NAME),
-        u32_at(Order::Little, record, HASH),
-        need,
-        part(record, NEED_NAME),
-    )
-}
-
-fn sysv_found(record: &[u8], class: Class, order: Order, store: &[u32], need: Need) -> Answer {
-    sysv::find::find(
-        class,
-        order,
-        part(record, TABLE),
-        part(record, SYMBOLS),
-        part(record, STRINGS),
-        part(record, VERSYMS),
-        store,
-        part(record, VERSION_STRINGS),
-        part(record, NAME),
-        u32_at(Order::Little, record, HASH),
-        need,
-        part(record, NEED_NAME),
-    )
-}
-
-// Whether a refusal is the recorded one, which is 0 where there is none.
-fn same_refusal(recorded: u8, number: u32) -> bool {
-    if recorded == 0 {
-        return false;
-    }
-    number == recorded as u32
-}
-
-// Whether a lookup gives the refusal, or the symbol or none and the probes, that are recorded.
-fn same_answer(record: &[u8], answer: Answer) -> bool {
-    let refusal = u8_at(record, ANSWER);
-    let found = u8_at(record, ANSWER + 1);
-    let recorded = u32_at(Order::Little, record, ANSWER + 6) as usize;
-    match answer {
-        Answer::Found(symbol, probes) => {
-            if refusal != 0 {
-                return false;
-            }
-            if found != 1 {
-                return false;
-            }
-            if symbol.0 != u32_at(Order::Little, record, ANSWER + 2) {
-                return false;
-            }
-            probes == recorded
-        }
-        Answer::Missing(probes) => {
-            if refusal != 0 {
-                return false;
-            }
-            if found != 0 {
-                return false;
-            }
-            probes == recorded
-        }
-        Answer::Refused(r) => same_refusal(refusal, r.0),
+        version_strings: part_at(record, VERSION_STRINGS),
     }
 }
 
-// Whether a table's length is the recorded one, or nothing, or the refusal.
-fn same_length(record: &[u8], length: TableLength) -> bool {
-    let refusal = u8_at(record, LENGTH);
-    let there = u8_at(record, LENGTH + 1);
-    match length {
-        TableLength::Symbols(count) => {
-            if refusal != 0 {
-                return false;
-            }
-            if there != 1 {
-                return false;
-            }
-            count == u32_at(Order::Little, record, LENGTH + 2)
-        }
-        TableLength::Nothing => {
-            if refusal != 0 {
-                return false;
-            }
-            there == 0
-        }
-        TableLength::Refused(r) => same_refusal(refusal, r.0),
+// The name and the version that the record asks for.
+fn asked_of(record: &[u8]) -> Asked {
+    Asked {
+        name: part_at(record, NAME),
+        need: match u8_at(record, NEED) {
+            0 => Need::Any,
+            _ => Need::Hash(u32_at(Order::Little, record, NEED + 1)),
+        },
+        need_name: part_at(record, NEED_NAME),
     }
 }
 
-// The same answer in the other table's words.
-fn length_of(chains: ChainCount) -> TableLength {
-    match chains {
-        ChainCount::Chains(count) => TableLength::Symbols(count),
-        ChainCount::Refused(r) => TableLength::Refused(r),
+// The recorded answer of the lookup: a refusal, or the symbol or none, and the probes.
+fn recorded_lookup(record: &[u8]) -> Result<Lookup, Refusal> {
+    let symbol = SymbolIndex(u32_at(Order::Little, record, ANSWER + 2));
+    match u8_at(record, ANSWER) {
+        0 => Ok(Lookup {
+            symbol: (u8_at(record, ANSWER + 1) == 1).then_some(symbol),
+            probes: u32_at(Order::Little, record, ANSWER + 6) as usize,
+        }),
+        refusal => Err(Refusal(refusal as u32)),
+    }
+}
+
+// The recorded length of the table: a refusal, or so many symbols, or nothing.
+fn recorded_length(record: &[u8]) -> Result<Option<u32>, Refusal> {
+    let count = u32_at(Order::Little, record, LENGTH + 2);
+    match u8_at(record, LENGTH) {
+        0 => Ok((u8_at(record, LENGTH + 1) == 1).then_some(count)),
+        refusal => Err(Refusal(refusal as u32)),
     }
 }
 
 // Whether both answers about the table are the recorded ones.
-fn tables_agree(record: &[u8], store: &[u32]) -> bool {
+fn tables_agree(record: &[u8], parts: Parts) -> bool {
     let class = class_of(u8_at(record, 1));
     let order = order_of(u8_at(record, 2));
-    let need = need_of(u8_at(record, NEED), u32_at(Order::Little, record, NEED + 1));
-    let table = part(record, TABLE);
-    if u8_at(record, 0) == b'g' {
-        if !same_answer(record, gnu_found(record, class, order, store, need)) {
-            return false;
-        }
-        return same_length(record, gnu_length::table_length(class, order, table));
-    }
-    if !same_answer(record, sysv_found(record, class, order, store, need)) {
-        return false;
-    }
-    same_length(
-        record,
-        length_of(sysv_header::length::table_length(order, table)),
-    )
+    let asked = asked_of(record);
+    let hash = u32_at(Order::Little, record, HASH);
+    let (found, length) = if u8_at(record, 0) == b'g' {
+        (
+            gnu::find::find(class, order, parts, asked, hash),
+            gnu_length::table_length(class, order, parts.table),
+        )
+    } else {
+        (
+            sysv::find::find(class, order, parts, asked, hash),
+            sysv_header::length::table_length(order, parts.table).map(Some),
+        )
+    };
+    found == recorded_lookup(record) && length == recorded_length(record)
 }
 
 // The recorded versions can all be read.
 fn agrees(record: &[u8]) -> bool {
     let order = order_of(u8_at(record, 2));
-    let verdef = part(record, VERDEF);
-    let verneed = part(record, VERNEED);
-    let strings = part(record, VERSION_STRINGS);
+    let verdef = part_at(record, VERDEF);
+    let verneed = part_at(record, VERNEED);
+    let strings = part_at(record, VERSION_STRINGS);
     let mut store = [0xffff_ffffu32; STORE];
-    match parse(order, verdef, verneed, strings, &mut store) {
-        Parsed::Highest(_) => tables_agree(record, &store),
-        Parsed::Refused(_) => false,
-    }
+    parse(order, verdef, verneed, strings, &mut store).is_ok()
+        && tables_agree(record, parts_of(record, &store))
 }
 
 fn main(rt: HostRuntime) -> io::Result<()> {

@@ -4,8 +4,9 @@
 --     after_here               the byte before n is zero: that place is n
 --     after_next               it is another: look among the bytes before it
 --     after_whole              where the search begins
+--     after_last               the place after the zero that the library's search from the end finds, or 0
 -- Assumes nothing.
-use Prim.Native.Nat.{ℕ, zero, suc, ◌-◌, ◌≤◌, ◌<◌}
+use Prim.Native.Nat.{ℕ, zero, suc, ◌+◌, ◌-◌, ◌≤◌, ◌<◌}
 use mathlib.Core.Path.{◌≡◌, refl, sym, ap, ◌∙◌}
 use mathlib.Core.Bool.{Bool, true, false, cond}
 use mathlib.Core.List.{List, [], ◌∷◌, ◌++◌}
@@ -13,7 +14,10 @@ use native.Mathlib.Omega.{arith}
 use lib.Dec.{ltb}
 use lib.ListN.{length, get_or, take, drop, length-drop}
 use lib.Seq.{take-suc, take-length, length-take-le}
-use borrow.Author.Tests.{eq-eqb, ne_eqb, ltb-true, ltb-false, lt-ltb, le-ltb}
+use borrow.Author.Tests.{eq-eqb, eqb-true, ne_eqb, ltb-true, ltb-false, lt-ltb, le-ltb}
+use native.Mathlib.Nat.{add-zero}
+use Rattle.std.specs.Prelude.{Option, Some, None, MatchOption}
+use Rattle.memchr.specs.Find.{IsLastByte, is_byte}
 use Rattle.endian.specs.First.{first, is_zero, readable}
 use Rattle.strings.specs.AfterZero.{after_zero}
 
@@ -116,3 +120,27 @@ module _ (s : List ℕ) (n : ℕ) (more : 0 < n) (there : n ≤ length s) where
 
 pub after_whole : (s : List ℕ) → after_zero s ≡ after_zero (take (length s) s)
 after_whole s = ap after_zero (sym (take-length s))
+
+-- no zero stands in the last d of n + d bytes
+after_tail : (s : List ℕ) (n d : ℕ) → n + d ≤ length s → ((k : ℕ) → n ≤ k → k < n + d → ¬ (get_or s k 0 ≡ 0))
+    → after_zero (take (n + d) s) ≡ after_zero (take n s)
+after_tail s n zero fits other = rw add-zero
+after_tail s n (suc d) fits other =
+    let here : n + suc d - 1 ≡ n + d = omega arith in
+    let rest = after_tail s n d (omega arith) (λ k low high. other k low (omega arith)) in
+    rw here at (after_next s (n + suc d) (omega arith) fits (rw here (other (n + d) (omega arith) (omega arith)))) ∙ rest
+
+after_rest : (s : List ℕ) (n : ℕ) → n ≤ length s → ((k : ℕ) → n ≤ k → k < length s → ¬ (get_or s k 0 ≡ 0))
+    → after_zero s ≡ after_zero (take n s)
+after_rest s n fits other =
+    let whole : n + (length s - n) ≡ length s = omega arith in
+    after_whole s ∙ rw whole at (after_tail s n (length s - n) (omega arith) (λ k low high. other k low (omega arith)))
+
+pub after_last : (s : List ℕ) (r : Option ℕ) → IsLastByte (is_byte 0) s r → MatchOption r (after_zero s ≡ 0) (λ i. after_zero s ≡ i + 1)
+unfolding after_zero
+after_last s None nowhere = after_rest s 0 (omega arith) (λ k low high zero. nowhere k low high (eq-eqb _ _ zero))
+after_last s (Some i) (none, here) =
+    let fits = none.high in
+    let back : i + 1 - 1 ≡ i = omega arith in
+    after_rest s (i + 1) (omega arith) (λ k low high zero. none.after k low high (eq-eqb _ _ zero))
+    ∙ after_here s (i + 1) (omega arith) (omega arith) (rw back (eqb-true _ _ here))

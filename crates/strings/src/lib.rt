@@ -6,6 +6,7 @@ ghost use Rattle.strings.specs.Strings.{string_at, string_equals};
 ghost use Rattle.strings.specs.AfterZero.{after_zero};
 
 use endian::refusals::{LIMIT, NO_STRING, Refusal, TOO_LONG};
+use memchr::memrchr;
 use name_match::reads_name;
 use zero_search::first_zero;
 
@@ -50,12 +51,8 @@ pub fn string_equals(strings: &[u8], offset: u32, name: &[u8]) -> bool
 pub fn after_last_zero(strings: &[u8]) -> usize
     ensures { result ≡ after_zero strings.now }
 {
-    let mut n = strings.len();
-    while 0 < n {
-        if strings[n - 1] == 0 {
-            return n;
-        }
-        n -= 1;
+    match memrchr(0, strings) {
+        Some(last) => last + 1,
+        None => 0,
     }
-    0
 }

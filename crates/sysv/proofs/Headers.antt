@@ -12,7 +12,7 @@ use Rattle.endian.specs.declared.refusals.Refusal.{Refusal}
 use Rattle.endian.specs.Refusals.{limit, any_long, too_long, unless_refused}
 use Rattle.endian.specs.Word.{word_at}
 use Rattle.lookup.specs.declared.Lookup.{Lookup}
-use Rattle.lookup.specs.Wanted.{Parts, Asked, wanted, missing, walk}
+use Rattle.lookup.specs.Wanted.{Parts, Asked, all_parts, wanted, missing, walk}
 use Rattle.sysv_header.specs.declared.header.Header.{Header}
 use Rattle.sysv_header.specs.Header.{sysv_fault}
 use Rattle.sysv_header.specs.Reading.{header_of, header_at}
@@ -24,20 +24,18 @@ abbrev pub find_from : Result Header Refusal → Lookup → Result Lookup Refusa
 find_from (Ok header) answer = Ok answer
 find_from (Err r) answer = Err r
 
--- the table's own length is the header's to refuse
 module _ (class : Class) (order : Order) (p : Parts) (asked : Asked) (hash : ℕ) where
-  abbrev pub other_parts : List (List ℕ)
-  other_parts = p.symbols ∷ p.strings ∷ p.versyms ∷ p.version_strings ∷ asked.name ∷ asked.need_name ∷ []
-
   pub find_from_lem : sysv_find class order p asked hash
-      ≡ cond (any_long other_parts) (Err too_long)
+      ≡ cond (any_long (all_parts p asked)) (Err too_long)
       (find_from (header_at order p.table) (sysv_lookup (sysv_table class order p) hash (wanted class order p asked)))
   unfolding sysv_find header_at
-  find_from_lem = by (ltb limit (length p.table)) (any_long other_parts) (sysv_fault order p.table) _
+  find_from_lem =
+      by (ltb limit (length p.table))
+      (any_long (p.symbols ∷ p.strings ∷ p.versyms ∷ p.version_strings ∷ asked.name ∷ asked.need_name ∷ [])) (sysv_fault order p.table) _
     where
       by : (t u : Bool) (o : Option Refusal) (answer : Lookup)
           → cond (cond t true u) (Err too_long) (unless_refused Err o (Ok answer))
-          ≡ cond u (Err too_long)
+          ≡ cond (cond t true u) (Err too_long)
           (find_from (cond t (Err too_long) (unless_refused Err o (Ok (header_of order p.table)))) answer)
       by true true o answer = refl
       by true false o answer = refl

@@ -16,6 +16,7 @@ pub struct Header {
 
 // The header. Refused in this order: a table that is too long; one too short for its header, its
 // buckets, its chains.
+#[tactic(auto, unfolding(crate::specs::Reading::header_at))]
 pub fn header_of(order: Order, table: &[u8]) -> Result<Header, Refusal>
     ensures { result ≡ header_at order table.now }
 {

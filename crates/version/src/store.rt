@@ -1,4 +1,5 @@
 // The lent store: the numbers of each version, at its index.
+use super::index::VersionIndex;
 
 // The numbers of an entry.
 pub const ENTRY: usize = 6;
@@ -22,4 +23,11 @@ pub struct Version {
     pub hash: u32,
     pub name: Part,
     pub file: Part,
+}
+
+// A version at its index.
+#[derive(Clone, Copy, Debug, PartialEq, Eq)]
+pub struct Stored {
+    pub index: VersionIndex,
+    pub version: Version,
 }

@@ -9,7 +9,7 @@ use Rattle.endian.specs.declared.kinds.Order.{Order}
 use Rattle.version_layout.specs.Indices.{need_index}
 use Rattle.version_layout.specs.declared.steps.Aux.{Aux}
 use Rattle.version_records.specs.Outcome.{folded}
-use Rattle.version_records.specs.Outcome.Outcome.{fine}
+use Rattle.std.specs.Prelude.{Ok}
 use Rattle.version_highest.specs.Highest.{aux_indices, higher_of}
 use Rattle.version.specs.declared.index.VersionIndex.{VersionIndex}
 use Rattle.version_records.proofs.Outcomes.{fine_same}
@@ -22,14 +22,14 @@ higher_of_again high index =
 
 module _ (order : Order) (s : List ℕ) (a : Aux) where
   pub higher_once : (high high' index : VersionIndex) → high' ≡ higher_of high index → index ≡ need_index order s a.at
-      → fine high' ≡ folded higher_of high (aux_indices order s a)
+      → Ok high' ≡ folded higher_of high (aux_indices order s a)
   unfolding aux_indices
-  higher_once high high' index h i = ap fine (h ∙ ap (higher_of high) i)
+  higher_once high high' index h i = ap Ok (h ∙ ap (higher_of high) i)
 
-  pub higher_again : (high high' : VersionIndex) → fine high' ≡ folded higher_of high (aux_indices order s a)
-      → fine high' ≡ folded higher_of high' (aux_indices order s a)
+  pub higher_again : (high high' : VersionIndex) → Ok high' ≡ folded higher_of high (aux_indices order s a)
+      → Ok high' ≡ folded higher_of high' (aux_indices order s a)
   unfolding aux_indices
   higher_again high high' h =
       let e = fine_same _ _ h in
-      ap fine (e ∙ sym (higher_of_again high (need_index order s a.at)) ∙ ap
+      ap Ok (e ∙ sym (higher_of_again high (need_index order s a.at)) ∙ ap
       (λ (x : VersionIndex). higher_of x (need_index order s a.at)) (sym e))

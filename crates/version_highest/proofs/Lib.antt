@@ -1,4 +1,2 @@
--- `Highs` is for whoever calls the first pass: what its answer says. `Again` serves its own proofs: what a needed version
--- does, once and again.
+-- `Again` serves the crate's own proofs: what a needed version does, once and again.
 mod Again
-pub mod Highs

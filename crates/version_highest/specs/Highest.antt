@@ -7,7 +7,7 @@ use Rattle.std.specs.Prelude.{ℕ, max, List, [], ◌∷◌, cond}
 use Rattle.endian.specs.declared.kinds.Order.{Order}
 use Rattle.version_layout.specs.Indices.{def_index, need_index, is_base}
 use Rattle.version_records.specs.Outcome.{Outcome, both, folded}
-use Rattle.version_records.specs.Outcome.Outcome.{fine}
+use Rattle.std.specs.Prelude.{Ok}
 use Rattle.version_records.specs.Walk.{collect}
 use Rattle.version_records.specs.Records.{verdefs, verneeds, vernauxs, need_count}
 use Rattle.version.specs.declared.index.VersionIndex.{VersionIndex}
@@ -16,10 +16,10 @@ use Rattle.version_layout.specs.declared.steps.Aux.{Aux}
 
 -- definitions flagged base are passed over
 unfoldable pub def_indices : Order → List ℕ → Record → Outcome (List VersionIndex)
-def_indices order s r = fine (cond (is_base order s r) [] (def_index order s r.at ∷ []))
+def_indices order s r = Ok (cond (is_base order s r) [] (def_index order s r.at ∷ []))
 
 unfoldable pub aux_indices : Order → List ℕ → Aux → Outcome (List VersionIndex)
-aux_indices order s a = fine (need_index order s a.at ∷ [])
+aux_indices order s a = Ok (need_index order s a.at ∷ [])
 
 abbrev pub need_indices : Order → List ℕ → Record → Outcome (List VersionIndex)
 need_indices order s r = collect (aux_indices order s) (vernauxs order s (need_count order s r) r.aux)

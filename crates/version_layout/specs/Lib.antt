@@ -1,3 +1,2 @@
 pub mod Indices
 pub mod Layouts
-pub mod Steps

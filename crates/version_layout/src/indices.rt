@@ -7,6 +7,7 @@ use version::index::VersionIndex;
 use word::u16_at;
 
 // The index of a definition: its whole 16 bits.
+#[tactic(auto, using(endian::proofs::Word::word_past))]
 pub fn def_index(order: Order, s: &[u8], at: usize) -> VersionIndex
     ensures { result ≡ def_index order s.now at }
 {
@@ -17,6 +18,7 @@ pub fn def_index(order: Order, s: &[u8], at: usize) -> VersionIndex
 }
 
 // The index of a needed version: its low 15 bits.
+#[tactic(auto, using(endian::proofs::Word::word_past))]
 pub fn need_index(order: Order, s: &[u8], at: usize) -> VersionIndex
     ensures { result ≡ need_index order s.now at }
 {

@@ -1,5 +1,5 @@
-// The records of the version sections: their layouts, in specs/, the indices that they name, and what a
-// step to one answers.
+// The records of the version sections: their layouts, in specs/, the indices that they name, and their
+// places.
 #![tactic(auto)]
 
 pub mod indices;

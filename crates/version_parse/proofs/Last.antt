@@ -20,14 +20,15 @@ use borrow.Author.Tests.{ltb-true, ltb-false}
 use Rattle.endian.specs.declared.kinds.Order.{Order}
 use Rattle.endian.specs.Refusals.{any_long, too_long, store_too_small}
 use Rattle.version_records.specs.Outcome.{Outcome, bind, both, folded}
-use Rattle.version_records.specs.Outcome.Outcome.{fine, stop}
+use Rattle.std.specs.Prelude.{Ok, Err}
 use Rattle.version_records.specs.Walk.{Walk, collect}
 use Rattle.version_records.specs.Walk.Walk.{end, broken, more}
 use Rattle.version.specs.Index.{is_special}
 use Rattle.version_records.specs.Records.{verdefs, verneeds, vernauxs, need_count}
 use Rattle.version_layout.specs.Indices.{def_index, need_index, is_base}
 use Rattle.version_highest.specs.Highest.{highest_index}
-use Rattle.version.specs.Store.{entry_size, store_needs, version_numbers, Stored, put_entry}
+use Rattle.version.specs.Store.{entry_size, store_needs, version_numbers, put_entry}
+use Rattle.version.specs.declared.store.Stored.{Stored}
 use Rattle.version_entries.specs.Entries.{storing, passed_over, def_version, need_version, def_entries, aux_entries}
 use Rattle.version_parse.specs.SecondPass.{need_entries, entries}
 use Rattle.version_parse.specs.Room.{All, DefRoom, AuxRoom, NeedRoom}
@@ -97,18 +98,18 @@ module _ (n : ℕ) where
   fits_middle [] after x f = f.0
   fits_middle (y ∷ before) after x f = fits_middle before after x f.1
 
-  both_fit : (p q : Outcome (List Stored)) → ((xs : List Stored) → p ≡ fine xs → Fits n xs)
-      → ((xs : List Stored) → q ≡ fine xs → Fits n xs)
-      → (xs : List Stored) → both p q ≡ fine xs → Fits n xs
-  both_fit (stop e) q f g xs h = absurd (stop_fine e xs h)
-  both_fit (fine ys) (stop e) f g xs h = absurd (stop_fine e xs h)
-  both_fit (fine ys) (fine zs) f g xs h =
+  both_fit : (p q : Outcome (List Stored)) → ((xs : List Stored) → p ≡ Ok xs → Fits n xs)
+      → ((xs : List Stored) → q ≡ Ok xs → Fits n xs)
+      → (xs : List Stored) → both p q ≡ Ok xs → Fits n xs
+  both_fit (Err e) q f g xs h = absurd (stop_fine e xs h)
+  both_fit (Ok ys) (Err e) f g xs h = absurd (stop_fine e xs h)
+  both_fit (Ok ys) (Ok zs) f g xs h =
       let e : ys ++ zs ≡ xs = fine_same _ _ h in
       rw e at (fits_append ys zs (f ys refl) (g zs refl))
 
   module _ {A : Type 0} (g : A → Outcome (List Stored)) (P : A → Type 0)
-      (fit : (a : A) → P a → (xs : List Stored) → g a ≡ fine xs → Fits n xs) where
-    collect_fits : (w : Walk A) → All P w → (xs : List Stored) → collect g w ≡ fine xs → Fits n xs
+      (fit : (a : A) → P a → (xs : List Stored) → g a ≡ Ok xs → Fits n xs) where
+    collect_fits : (w : Walk A) → All P w → (xs : List Stored) → collect g w ≡ Ok xs → Fits n xs
     collect_fits end all [] h = tt
     collect_fits end all (x ∷ xs) h = let z : ◌≡◌ {A = ℕ} 0 1 = cc in absurd (omega arith)
     collect_fits (broken e) all xs h = absurd (stop_fine e xs h)
@@ -116,38 +117,38 @@ module _ (n : ℕ) where
 
   storing_fits : (passed : Bool) (index : VersionIndex) (version : Outcome Version)
       → (passed ≡ false → store_needs index ≤ n)
-      → (xs : List Stored) → storing passed index version ≡ fine xs → Fits n xs
+      → (xs : List Stored) → storing passed index version ≡ Ok xs → Fits n xs
   storing_fits true index version room [] h = tt
   storing_fits true index version room (x ∷ xs) h = let z : ◌≡◌ {A = ℕ} 0 1 = cc in absurd (omega arith)
-  storing_fits false index (stop e) room xs h = absurd (stop_fine e xs h)
-  storing_fits false index (fine v) room xs h =
+  storing_fits false index (Err e) room xs h = absurd (stop_fine e xs h)
+  storing_fits false index (Ok v) room xs h =
       let x : Stored = record { index = index; version = v } in
       let one : Fits n (x ∷ []) = (room refl, tt) in
       let e : x ∷ [] ≡ xs = fine_same _ _ h in
       subst (λ (l : List Stored). Fits n l) e one
 
   module _ (order : Order) (s strings : List ℕ) where
-    def_fits : (d : Record) → DefRoom order s n d → (xs : List Stored) → def_entries order s strings d ≡ fine xs
+    def_fits : (d : Record) → DefRoom order s n d → (xs : List Stored) → def_entries order s strings d ≡ Ok xs
         → Fits n xs
     def_fits d room xs h =
         storing_fits (passed_over order s d) (def_index order s d.at) (def_version order s strings d)
         (λ kept. room (or_left (is_base order s d) _ kept)) xs h
 
     aux_fits : (file : ℕ) (a : Aux) → AuxRoom order s n a → (xs : List Stored)
-        → aux_entries order s strings file a ≡ fine xs → Fits n xs
+        → aux_entries order s strings file a ≡ Ok xs → Fits n xs
     aux_fits file a room xs h =
         storing_fits (is_special (need_index order s a.at)) (need_index order s a.at) (need_version order s strings file a)
         (λ kept. room) xs h
 
-    need_fits : (r : Record) → NeedRoom order s n r → (xs : List Stored) → need_entries order s strings r ≡ fine xs
+    need_fits : (r : Record) → NeedRoom order s n r → (xs : List Stored) → need_entries order s strings r ≡ Ok xs
         → Fits n xs
     need_fits r room xs h =
         collect_fits (aux_entries order s strings _) (AuxRoom order s n) (aux_fits _)
         (vernauxs order s (need_count order s r) r.aux) room xs h
 
   pub entries_fit : (order : Order) (verdef verneed strings : List ℕ) (high : VersionIndex)
-      → highest_index order verdef verneed ≡ fine high
-      → store_needs high ≤ n → (xs : List Stored) → entries order verdef verneed strings ≡ fine xs → Fits n xs
+      → highest_index order verdef verneed ≡ Ok high
+      → store_needs high ≤ n → (xs : List Stored) → entries order verdef verneed strings ≡ Ok xs → Fits n xs
   entries_fit order verdef verneed strings high h room xs =
       let rooms = highest_room order verdef verneed n high h room in
       both_fit (collect (def_entries order verdef strings) (verdefs order verdef 0))
@@ -165,13 +166,13 @@ zeros-length : (n : ℕ) → length (zeros n) ≡ n
 zeros-length n = length-replicate n _
 
 abbrev table_of : VersionIndex → Outcome (List ℕ) → Outcome ParsedStore
-table_of high filled = bind filled (λ store. fine (record { highest = high; store = store }))
+table_of high filled = bind filled (λ store. Ok (record { highest = high; store = store }))
 
 module _ (order : Order) (verdef verneed strings : List ℕ) (n : ℕ) (table : ParsedStore)
     (done : parsed order verdef verneed strings n
-    ≡ fine table) (xs : List Stored) (listed : entries order verdef verneed strings ≡ fine xs) where
+    ≡ Ok table) (xs : List Stored) (listed : entries order verdef verneed strings ≡ Ok xs) where
   pub parsed_from : (highest_index order verdef verneed
-      ≡ fine table.highest) × (store_needs table.highest ≤ n) × (table.store ≡ foldl put_entry (zeros n) xs)
+      ≡ Ok table.highest) × (store_needs table.highest ≤ n) × (table.store ≡ foldl put_entry (zeros n) xs)
   unfolding parsed_into
   parsed_from =
       let fits = (cond_fine (any_long (verdef ∷ verneed ∷ strings ∷ [])) too_long _ table done).1 in
@@ -179,12 +180,12 @@ module _ (order : Order) (verdef verneed strings : List ℕ) (n : ℕ) (table : 
       let room = cond_fine (ltb (length (zeros n)) (store_needs high.0)) store_too_small
       (table_of high.0 (folded put_entry (zeros n) (entries order verdef verneed strings))) table high.2 in
       let made : ParsedStore = record { highest = high.0; store = foldl put_entry (zeros n) xs } in
-      let all : table_of high.0 (folded put_entry (zeros n) (entries order verdef verneed strings)) ≡ fine made =
+      let all : table_of high.0 (folded put_entry (zeros n) (entries order verdef verneed strings)) ≡ Ok made =
       ap (λ (o : Outcome (List Stored)). table_of high.0 (folded put_entry (zeros n) o)) listed in
       let whole : table ≡ made = fine_same table made (sym room.1 ∙ all) in
       let enough : store_needs high.0 ≤ length (zeros n) =
       ltb-false (length (zeros n)) (store_needs high.0) room.0 in (
-        high.1 ∙ ap (λ (t : ParsedStore). fine t.highest) (sym whole),
+        high.1 ∙ ap (λ (t : ParsedStore). Ok t.highest) (sym whole),
         omega (arith, zeros-length n, ap (λ (t : ParsedStore). t.highest.0) whole),
         ap (λ (t : ParsedStore). t.store) whole,
       )
@@ -197,9 +198,9 @@ zeros_at n j = by (ltb j n) refl
     by false e = get_or-eq_default (zeros n) 0 {n = j} (rw (zeros-length n) (ltb-false j n e))
 
 module _ (order : Order) (verdef verneed strings : List ℕ) (n : ℕ) (table : ParsedStore)
-    (done : parsed order verdef verneed strings n ≡ fine table) (k : ℕ) (inner : k < entry_size) where
+    (done : parsed order verdef verneed strings n ≡ Ok table) (k : ℕ) (inner : k < entry_size) where
   pub stored_last : (before after : List Stored) (x : Stored)
-      → entries order verdef verneed strings ≡ fine (before ++ (x ∷ after))
+      → entries order verdef verneed strings ≡ Ok (before ++ (x ∷ after))
       → Absent x.index after → number_at table.store x.index k ≡ get_or (version_numbers x.version) k 0
   stored_last before after x listed none =
       let from = parsed_from order verdef verneed strings n table done (before ++ (x ∷ after)) listed in
@@ -208,7 +209,7 @@ module _ (order : Order) (verdef verneed strings : List ℕ) (n : ℕ) (table : 
       ap (λ (l : List ℕ). number_at l x.index k) from.2
       ∙ folded_last before after x (zeros n) k inner (rw (zeros-length n) (fits_middle n before after x fit)) none
 
-  pub stored_none : (xs : List Stored) → entries order verdef verneed strings ≡ fine xs → (index : VersionIndex)
+  pub stored_none : (xs : List Stored) → entries order verdef verneed strings ≡ Ok xs → (index : VersionIndex)
       → Absent index xs
       → number_at table.store index k ≡ 0
   stored_none xs listed index none =

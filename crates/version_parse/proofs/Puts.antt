@@ -3,19 +3,19 @@
 --     sets_again                         the same run once more changes nothing
 --     put_entry_of                       the stores of `put_entry`, one after the other
 --     put_again, length_put              the same entry once more; the store's length
---     zero_all                           a list that is filled to its end with zeros
 -- Assumes nothing.
 use Prim.Native.Nat.{ℕ, zero, suc, ◌+◌, ◌-◌, ◌*◌, ◌≤◌, ◌<◌}
 use mathlib.Core.Path.{◌≡◌, refl, sym, ap, ◌∙◌}
 use mathlib.Core.Bool.{Bool, true, false}
-use mathlib.Core.List.{List, [], ◌∷◌, ◌++◌, append-nil}
+use mathlib.Core.List.{List, [], ◌∷◌}
 use native.Mathlib.Omega.{arith}
 use native.Mathlib.Nat.{add-zero}
 use lib.Dec.{ltb}
-use lib.ListN.{length, get_or, set, drop, replicate, length-set, drop_of_length-le}
+use lib.ListN.{length, get_or, set, length-set}
 use lib.Seq.{sets, length-sets, ext_get_or, get_or-set_same, get_or-set_other}
 use borrow.Author.Tests.{ltb-true, ltb-false}
-use Rattle.version.specs.Store.{entry_size, version_numbers, Stored, put_entry}
+use Rattle.version.specs.Store.{entry_size, version_numbers, put_entry}
+use Rattle.version.specs.declared.store.Stored.{Stored}
 
 pub sets_below : (l : List ℕ) (i j : ℕ) (vs : List ℕ) → j < i → get_or (sets l i vs) j 0 ≡ get_or l j 0
 sets_below l i j [] h = refl
@@ -75,9 +75,3 @@ module _ (st : List ℕ) (x : Stored) where
   pub length_put : length (put_entry st x) ≡ length st
   unfolding put_entry
   length_put = length-sets st (x.index.0 * entry_size) (version_numbers x.version)
-
-pub zero_all : (st : List ℕ) (i : ℕ) → i ≤ length st → length st ≤ i
-    → replicate i 0 ++ drop i st ≡ replicate (length st) 0
-zero_all st i h l =
-    let e : i ≡ length st = omega arith in
-    rw (drop_of_length-le st l) (append-nil (replicate i 0) ∙ ap (λ (n : ℕ). replicate n 0) e)

@@ -2,17 +2,16 @@
 --     filled_outcome    of the second pass: the store
 --     parsed_outcome    of both passes: the highest index and the store
 -- Assumes nothing.
-use Rattle.std.specs.Prelude.{ℕ, List}
+use Rattle.std.specs.Prelude.{ℕ, List, Result, Ok, Err}
+use Rattle.endian.specs.declared.refusals.Refusal.{Refusal}
+use Rattle.version.specs.declared.index.VersionIndex.{VersionIndex}
 use Rattle.version_records.specs.Outcome.{Outcome}
-use Rattle.version_records.specs.Outcome.Outcome.{fine, stop}
 use Rattle.version_parse.specs.Parse.{ParsedStore}
-use Rattle.version_parse.specs.declared.fill.Filled.{Filled}
-use Rattle.version_parse.specs.declared.parse.Parsed.{Parsed}
 
-abbrev pub filled_outcome : Filled → List ℕ → Outcome (List ℕ)
-filled_outcome Filled.Done store = fine store
-filled_outcome (Filled.Refused e) store = stop e
+abbrev pub filled_outcome : Result (Unit {0}) Refusal → List ℕ → Outcome (List ℕ)
+filled_outcome (Ok done) store = Ok store
+filled_outcome (Err e) store = Err e
 
-abbrev pub parsed_outcome : Parsed → List ℕ → Outcome ParsedStore
-parsed_outcome (Parsed.Highest high) store = fine (record { highest = high; store = store })
-parsed_outcome (Parsed.Refused e) store = stop e
+abbrev pub parsed_outcome : Result VersionIndex Refusal → List ℕ → Outcome ParsedStore
+parsed_outcome (Ok high) store = Ok (record { highest = high; store = store })
+parsed_outcome (Err e) store = Err e

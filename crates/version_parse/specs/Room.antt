@@ -3,7 +3,7 @@
 --     EntryRoom                    room for what a record stores
 --     DefRoom, AuxRoom, NeedRoom   room for a definition, a needed version, a need
 -- Assumes nothing.
-use Rattle.std.specs.Prelude.{ℕ, ◌≤◌, ◌≡◌, List, false}
+use Rattle.std.specs.Prelude.{ℕ, ◌≤◌, ◌≡◌, List, false, Option, Some, None}
 use Rattle.endian.specs.declared.kinds.Order.{Order}
 use Rattle.version_records.specs.Walk.{Walk}
 use Rattle.version_records.specs.Walk.Walk.{end, broken, more}
@@ -11,7 +11,7 @@ use Rattle.version_records.specs.Records.{vernauxs, need_count}
 use Rattle.version_layout.specs.Indices.{def_index, need_index, is_base}
 use Rattle.version.specs.Store.{store_needs}
 use Rattle.version_layout.specs.declared.steps.Record.{Record}
-use Rattle.version_entries.specs.declared.entries.EntryStep.{EntryStep}
+use Rattle.version.specs.declared.store.Stored.{Stored}
 use Rattle.version_layout.specs.declared.steps.Aux.{Aux}
 
 abbrev pub All : {A : Type 0} → (A → Type 0) → Walk A → Type 0
@@ -19,10 +19,9 @@ All P end = Unit {0}
 All P (broken e) = Unit {0}
 All P (more a w) = P a × All P w
 
-abbrev pub EntryRoom : (n : ℕ) → EntryStep → Type 0
-EntryRoom n EntryStep.Nothing = Unit {0}
-EntryRoom n (EntryStep.Is index version) = store_needs index ≤ n
-EntryRoom n (EntryStep.Refused e) = Unit {0}
+abbrev pub EntryRoom : (n : ℕ) → Option Stored → Type 0
+EntryRoom n None = Unit {0}
+EntryRoom n (Some stored) = store_needs stored.index ≤ n
 
 abbrev pub DefRoom : Order → List ℕ → (n : ℕ) → Record → Type 0
 DefRoom order s n d = is_base order s d ≡ false → store_needs (def_index order s d.at) ≤ n

@@ -10,7 +10,7 @@ use Rattle.version_records.specs.Outcome.{Outcome, both}
 use Rattle.version_records.specs.Walk.{collect}
 use Rattle.version_records.specs.Records.{verdefs, verneeds, vernauxs, need_count}
 use Rattle.version_entries.specs.Entries.{def_entries, aux_entries}
-use Rattle.version.specs.Store.{Stored}
+use Rattle.version.specs.declared.store.Stored.{Stored}
 
 abbrev pub need_entries : Order → (s strings : List ℕ) → Record → Outcome (List Stored)
 need_entries order s strings r =

@@ -1,83 +1,58 @@
 // Version parsing as a whole: the one function that writes to lent memory.
 ghost use Rattle.std.specs.Prelude.{[], ◌∷◌, ◌≡◌, length};
 ghost use Rattle.endian.specs.Refusals.{any_long};
-ghost use Rattle.version_highest.specs.HighestAnswers.{high_refusal};
 ghost use Rattle.version_parse.specs.Parse.{parsed_into, parsed, answer_of, store_after};
 ghost use Rattle.version_parse.specs.ParseAnswers.{parsed_outcome};
 
-use super::fill::{Filled, second_pass};
+use super::fill::second_pass;
 use super::store::zero;
 use endian::kinds::Order;
 use endian::refusals::{LIMIT, Refusal, STORE_TOO_SMALL, TOO_LONG};
 use version::index::VersionIndex;
 use version::store::ENTRY;
-use version_highest::highest::{High, first_pass};
-
-// The highest index of the version sections, which the store then has room for.
-#[derive(Clone, Copy)]
-pub enum Parsed {
-    Highest(VersionIndex),
-    Refused(Refusal),
-}
-
-// Why a first pass was refused; 0 where it was not.
-fn high_refusal(high: High) -> Refusal
-    ensures { result ≡ high_refusal high }
-{
-    match high {
-        High::Is(_) => Refusal(0),
-        High::Refused(refusal) => refusal,
-    }
-}
+use version_highest::highest::first_pass;
 
 // Whether a lent part is too long.
 fn any_long(verdef: &[u8], verneed: &[u8], strings: &[u8]) -> bool
     ensures { result ≡ any_long (verdef.now ∷ verneed.now ∷ strings.now ∷ []) }
 {
-    if LIMIT < verdef.len() {
-        return true;
-    }
-    if LIMIT < verneed.len() {
-        return true;
-    }
-    if LIMIT < strings.len() {
-        return true;
-    }
-    false
+    LIMIT < verdef.len() || LIMIT < verneed.len() || LIMIT < strings.len()
 }
 
 // Both passes, over a store of zeros. A refusal leaves it half filled.
-fn attempt(order: Order, verdef: &[u8], verneed: &[u8], strings: &[u8], store: &mut [u32]) -> Parsed
+fn attempt(
+    order: Order,
+    verdef: &[u8],
+    verneed: &[u8],
+    strings: &[u8],
+    store: &mut [u32],
+) -> Result<VersionIndex, Refusal>
     ensures { parsed_outcome result store.new
         ≡ parsed_into order verdef.now verneed.now strings.now store.old }
 {
     if any_long(verdef, verneed, strings) {
-        return Parsed::Refused(TOO_LONG);
+        return Err(TOO_LONG);
     }
-    let first = first_pass(order, verdef, verneed);
-    let High::Is(high) = first else {
-        return Parsed::Refused(high_refusal(first));
-    };
+    let high = first_pass(order, verdef, verneed)?;
     if store.len() < (high.0 as usize + 1) * ENTRY {
-        return Parsed::Refused(STORE_TOO_SMALL);
+        return Err(STORE_TOO_SMALL);
     }
-    match second_pass(order, verdef, verneed, strings, store) {
-        Filled::Done => Parsed::Highest(high),
-        Filled::Refused(refusal) => Parsed::Refused(refusal),
-    }
+    second_pass(order, verdef, verneed, strings, store)?;
+    Ok(high)
 }
 
 // Parses the definitions and the needs into the store: the numbers of each version at its index, and 0
-// in every other number. An absent section is an empty one. Refused in this order: a section or strings
-// that are too long; what the first pass refuses; a store with no room for the highest index; what the
-// second pass refuses. After a refusal the whole store is 0.
+// in every other number. Answers the highest index of the version sections, which the store then has
+// room for. An absent section is an empty one. Refused in this order: a section or strings that are too
+// long; what the first pass refuses; a store with no room for the highest index; what the second pass
+// refuses. After a refusal the whole store is 0.
 pub fn parse(
     order: Order,
     verdef: &[u8],
     verneed: &[u8],
     strings: &[u8],
     store: &mut [u32],
-) -> Parsed
+) -> Result<VersionIndex, Refusal>
     ensures answer { result
         ≡ answer_of
         (parsed order verdef.now verneed.now strings.now (length store.old)) }
@@ -86,10 +61,9 @@ pub fn parse(
         (parsed order verdef.now verneed.now strings.now (length store.old)) }
 {
     zero(store);
-    let done = attempt(order, verdef, verneed, strings, store);
-    let Parsed::Highest(high) = done else {
+    let parsed = attempt(order, verdef, verneed, strings, store);
+    if parsed.is_err() {
         zero(store);
-        return done;
-    };
-    Parsed::Highest(high)
+    }
+    parsed
 }

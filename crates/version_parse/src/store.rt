@@ -2,26 +2,23 @@
 ghost use Rattle.std.specs.Prelude.{◌≡◌, ◌≤◌, length, replicate};
 ghost use Rattle.version.specs.Store.{store_needs, put_entry};
 
-use version::index::VersionIndex;
-use version::store::{ENTRY, Version};
+use version::store::{ENTRY, Stored};
 
 // Leaves 0 throughout.
 pub fn zero(store: &mut [u32])
     ensures { store.new ≡ replicate (length store.old) 0 }
 {
-    let mut i = 0;
-    while i < store.len() {
-        store[i] = 0;
-        i += 1;
-    }
+    store.fill(0);
 }
 
 // Leaves a version's numbers at its index, and the rest as it was.
-pub(crate) fn put_entry(store: &mut [u32], index: VersionIndex, version: Version)
-    requires { store_needs index ≤ length store.old }
-    ensures { store.new ≡ put_entry store.old (record { index = index; version = version }) }
+#[tactic(auto, using(crate::proofs::Puts::put_entry_of), unfolding(version::specs::Store::put_entry))]
+pub(crate) fn put_entry(store: &mut [u32], stored: Stored)
+    requires { store_needs stored.index ≤ length store.old }
+    ensures { store.new ≡ put_entry store.old stored }
 {
-    let at = index.0 as usize * ENTRY;
+    let at = stored.index.0 as usize * ENTRY;
+    let version = stored.version;
     store[at] = version.kind;
     store[at + 1] = version.hash;
     store[at + 2] = version.name.start;

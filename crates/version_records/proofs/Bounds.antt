@@ -14,7 +14,7 @@ use borrow.Author.Tests.{eqb-false}
 use Rattle.endian.specs.declared.kinds.Order.{Order}
 use Rattle.endian.specs.declared.refusals.Refusal.{Refusal}
 use Rattle.endian.specs.Word.{field_at}
-use Rattle.version_records.specs.Outcome.Outcome.{fine, stop}
+use Rattle.std.specs.Prelude.{Ok, Err}
 use Rattle.version_records.specs.Walk.Walk.{end, broken, more}
 use Rattle.version_records.specs.Records.{place_after, record_at, aux_at, listed, vernauxs, vernaux_shape}
 use Rattle.version_records.specs.declared.records.ListShape.{ListShape}
@@ -41,14 +41,14 @@ module _ (shape : ListShape) (order : Order) (s : List ℕ) (at : ℕ) where
   abbrev whole : Record
   whole = record { at = at; aux = at + aux; next = place_after (length s) at next }
 
-  module _ (r : Record) (read : record_at shape order s at ≡ fine r) where
+  module _ (r : Record) (read : record_at shape order s at ≡ Ok r) where
     record_read : r ≡ whole
     unfolding record_at
     record_read =
         let left = length s - at in
         let long = (cond_fine (ltb left shape.size) shape.short _ r read).1 in
         let chained = cond_fine (ltb left aux) shape.bad_aux _ r long in
-        let onward = cond_fine (ltb left next) shape.bad_next (fine whole) r chained.1 in
+        let onward = cond_fine (ltb left next) shape.bad_next (Ok whole) r chained.1 in
         sym (fine_same whole r onward.1)
 
     pub record_place : at ≤ length s → r.at ≤ length s
@@ -61,24 +61,24 @@ module _ (shape : ListShape) (order : Order) (s : List ℕ) (at : ℕ) where
   listed_end h = linked_end (record_at shape order s) (λ r. r.next) (length s) at h
 
 module _ (shape : ListShape) (order : Order) (s : List ℕ) (at : ℕ) (inside : at < length s) where
-  onward : (at : ℕ) (r : Record) → at < length s → record_at shape order s at ≡ fine r → at < r.next
+  onward : (at : ℕ) (r : Record) → at < length s → record_at shape order s at ≡ Ok r → at < r.next
   onward at r h read = record_onward shape order s at r read h
 
-  pub listed_more : (r : Record) → record_at shape order s at ≡ fine r
+  pub listed_more : (r : Record) → record_at shape order s at ≡ Ok r
       → listed shape order s at ≡ more r (listed shape order s r.next)
   listed_more r read = linked_more (record_at shape order s) (λ r. r.next) (length s) onward at r inside read
 
-  pub listed_stop : (e : Refusal) → record_at shape order s at ≡ stop e → listed shape order s at ≡ broken e
+  pub listed_stop : (e : Refusal) → record_at shape order s at ≡ Err e → listed shape order s at ≡ broken e
   listed_stop e read = linked_stop (record_at shape order s) (λ r. r.next) (length s) onward at e inside read
 
 module _ (order : Order) (s : List ℕ) (left at : ℕ) where
   pub vernauxs_end : left ≤ 0 → vernauxs order s left at ≡ end
   vernauxs_end h = counted_end (aux_at vernaux_shape order s) (λ a. a.next) left at h
 
-  pub vernauxs_more : (a : Aux) → 0 < left → aux_at vernaux_shape order s at ≡ fine a
+  pub vernauxs_more : (a : Aux) → 0 < left → aux_at vernaux_shape order s at ≡ Ok a
       → vernauxs order s left at ≡ more a (vernauxs order s (left - 1) a.next)
   vernauxs_more a h read = counted_more (aux_at vernaux_shape order s) (λ a. a.next) left at a h read
 
-  pub vernauxs_stop : (e : Refusal) → 0 < left → aux_at vernaux_shape order s at ≡ stop e
+  pub vernauxs_stop : (e : Refusal) → 0 < left → aux_at vernaux_shape order s at ≡ Err e
       → vernauxs order s left at ≡ broken e
   vernauxs_stop e h read = counted_stop (aux_at vernaux_shape order s) (λ a. a.next) left at e h read

@@ -17,21 +17,21 @@ use native.Mathlib.Numerals.{sub-one}
 use borrow.Author.Tests.{lt-ltb, le-ltb, ltb-true}
 use Rattle.endian.specs.declared.refusals.Refusal.{Refusal}
 use Rattle.version_records.specs.Outcome.{Outcome, folded}
-use Rattle.version_records.specs.Outcome.Outcome.{fine, stop}
+use Rattle.std.specs.Prelude.{Ok, Err}
 use Rattle.version_records.specs.Walk.{Walk, link, linked_within, linked, counted, collect}
 use Rattle.version_records.specs.Walk.Walk.{end, broken, more}
 use Rattle.version_records.proofs.Outcomes.{both_go, both_leave}
 
-link_same : {A : Type 0} (o : Outcome A) (f g : A → Walk A) → ((a : A) → o ≡ fine a → f a ≡ g a) → link o f ≡ link o g
-link_same (fine a) f g h = ap (more a) (h a refl)
-link_same (stop e) f g h = refl
+link_same : {A : Type 0} (o : Outcome A) (f g : A → Walk A) → ((a : A) → o ≡ Ok a → f a ≡ g a) → link o f ≡ link o g
+link_same (Ok a) f g h = ap (more a) (h a refl)
+link_same (Err e) f g h = refl
 
 cond_same : {W : Type 0} (t : Bool) (x y z : W) → (t ≡ true → x ≡ y) → cond t x z ≡ cond t y z
 cond_same true x y z h = h refl
 cond_same false x y z h = refl
 
 abbrev pub Onward : {A : Type 0} → (ℕ → Outcome A) → (A → ℕ) → (n : ℕ) → Type 0
-Onward {A} step next n = (at : ℕ) (a : A) → at < n → step at ≡ fine a → at < next a
+Onward {A} step next n = (at : ℕ) (a : A) → at < n → step at ≡ Ok a → at < next a
 
 module _ {A : Type 0} (step : ℕ → Outcome A) (next : A → ℕ) (n : ℕ) where
   fuel_end : (k at : ℕ) → n ≤ at → linked_within step next n k at ≡ end
@@ -63,11 +63,11 @@ module _ {A : Type 0} (step : ℕ → Outcome A) (next : A → ℕ) (n : ℕ) wh
       let past : at < next a = onward at a h e in
       enough onward (n - at) (n - next a) (next a) (omega arith) (omega arith)))
 
-  pub linked_more : Onward step next n → (at : ℕ) (a : A) → at < n → step at ≡ fine a
+  pub linked_more : Onward step next n → (at : ℕ) (a : A) → at < n → step at ≡ Ok a
       → linked step next n at ≡ more a (linked step next n (next a))
   linked_more onward at a h e = linked_link onward at h ∙ ap (λ (o : Outcome A). link o (λ a. linked step next n (next a))) e
 
-  pub linked_stop : Onward step next n → (at : ℕ) (e : Refusal) → at < n → step at ≡ stop e
+  pub linked_stop : Onward step next n → (at : ℕ) (e : Refusal) → at < n → step at ≡ Err e
       → linked step next n at ≡ broken e
   linked_stop onward at e h s = linked_link onward at h ∙ ap (λ (o : Outcome A). link o (λ a. linked step next n (next a))) s
 
@@ -81,35 +81,35 @@ module _ {A : Type 0} (step : ℕ → Outcome A) (next : A → ℕ) where
   counted_end zero at h = refl
   counted_end (suc k) at h = absurd (not-suc-le-zero h)
 
-  pub counted_more : (left at : ℕ) (a : A) → 0 < left → step at ≡ fine a
+  pub counted_more : (left at : ℕ) (a : A) → 0 < left → step at ≡ Ok a
       → counted step next left at ≡ more a (counted step next (left - 1) (next a))
   counted_more left at a h e =
       counted_link left at h ∙ ap (λ (o : Outcome A). link o (λ a. counted step next (left - 1) (next a))) e
 
-  pub counted_stop : (left at : ℕ) (e : Refusal) → 0 < left → step at ≡ stop e → counted step next left at ≡ broken e
+  pub counted_stop : (left at : ℕ) (e : Refusal) → 0 < left → step at ≡ Err e → counted step next left at ≡ broken e
   counted_stop left at e h s =
       counted_link left at h ∙ ap (λ (o : Outcome A). link o (λ a. counted step next (left - 1) (next a))) s
 
 module _ {A B C : Type 0} (f : C → B → C) (g : A → Outcome (List B)) (c : C) where
   module _ (w : Walk A) where
-    pub collect_end : w ≡ end → folded f c (collect g w) ≡ fine c
+    pub collect_end : w ≡ end → folded f c (collect g w) ≡ Ok c
     collect_end h = rw h
 
-    pub collect_broken : (e : Refusal) → w ≡ broken e → folded f c (collect g w) ≡ stop e
+    pub collect_broken : (e : Refusal) → w ≡ broken e → folded f c (collect g w) ≡ Err e
     collect_broken e h = rw h
 
-    pub collect_turn : (a : A) (rest : Walk A) (c' : C) → w ≡ more a rest → fine c' ≡ folded f c (g a)
+    pub collect_turn : (a : A) (rest : Walk A) (c' : C) → w ≡ more a rest → Ok c' ≡ folded f c (g a)
         → folded f c (collect g w) ≡ folded f c' (collect g rest)
     collect_turn a rest c' h e = rw h (both_go f c (g a) (collect g rest) c' e)
 
-    pub collect_leave : (a : A) (rest : Walk A) (e : Refusal) → w ≡ more a rest → stop e ≡ folded f c (g a)
-        → folded f c (collect g w) ≡ stop e
+    pub collect_leave : (a : A) (rest : Walk A) (e : Refusal) → w ≡ more a rest → Err e ≡ folded f c (g a)
+        → folded f c (collect g w) ≡ Err e
     collect_leave a rest e h s = rw h (both_leave f c (g a) (collect g rest) e s)
 
 module _ {A B C : Type 0} (f : C → B → C) (g : A → Outcome (List B)) (step : ℕ → Outcome A) (next : A → ℕ)
-    (at : ℕ) (a : A) (read : step at ≡ fine a) (again : next a ≡ at) where
-  steady : (c : C) → fine c ≡ folded f c (g a) → (count : ℕ)
-      → folded f c (collect g (counted step next count at)) ≡ fine c
+    (at : ℕ) (a : A) (read : step at ≡ Ok a) (again : next a ≡ at) where
+  steady : (c : C) → Ok c ≡ folded f c (g a) → (count : ℕ)
+      → folded f c (collect g (counted step next count at)) ≡ Ok c
   steady c same zero = refl
   steady c same (suc count) =
       collect_turn f g c (counted step next (suc count) at) a (counted step next count at) c
@@ -118,8 +118,8 @@ module _ {A B C : Type 0} (f : C → B → C) (g : A → Outcome (List B)) (step
       same
       ∙ steady c same count
 
-  pub counted_repeat : (c c' : C) (left : ℕ) → 0 < left → fine c' ≡ folded f c (g a) → fine c' ≡ folded f c' (g a)
-      → folded f c (collect g (counted step next left at)) ≡ fine c'
+  pub counted_repeat : (c c' : C) (left : ℕ) → 0 < left → Ok c' ≡ folded f c (g a) → Ok c' ≡ folded f c' (g a)
+      → folded f c (collect g (counted step next left at)) ≡ Ok c'
   counted_repeat c c' left some once same =
       collect_turn f g c (counted step next left at) a (counted step next (left - 1) at) c'
       (counted_more step next left at a some read ∙ ap (λ (k : ℕ). more a (counted step next (left - 1) k)) again)

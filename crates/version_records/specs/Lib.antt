@@ -1,4 +1,3 @@
 pub mod Outcome
-pub mod RecordAnswers
 pub mod Records
 pub mod Walk

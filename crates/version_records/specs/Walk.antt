@@ -8,7 +8,7 @@
 use Rattle.std.specs.Prelude.{ℕ, zero, suc, ◌-◌, cond, List, [], ltb}
 use Rattle.endian.specs.declared.refusals.Refusal.{Refusal}
 use Rattle.version_records.specs.Outcome.{Outcome, both}
-use Rattle.version_records.specs.Outcome.Outcome.{fine, stop}
+use Rattle.std.specs.Prelude.{Ok, Err}
 
 pub data Walk (A : Type 0) : Type 0 where
   end : Walk A
@@ -16,8 +16,8 @@ pub data Walk (A : Type 0) : Type 0 where
   more : A → Walk A → Walk A
 
 abbrev pub link : {A : Type 0} → Outcome A → (A → Walk A) → Walk A
-link (fine a) rest = more a (rest a)
-link (stop e) rest = broken e
+link (Ok a) rest = more a (rest a)
+link (Err e) rest = broken e
 
 -- at most `most` records
 abbrev pub linked_within : {A : Type 0} → (ℕ → Outcome A) → (A → ℕ) → (n most at : ℕ) → Walk A
@@ -33,6 +33,6 @@ counted step next zero at = end
 counted step next (suc count) at = link (step at) (λ a. counted step next count (next a))
 
 abbrev pub collect : {A B : Type 0} → (A → Outcome (List B)) → Walk A → Outcome (List B)
-collect g end = fine []
-collect g (broken e) = stop e
+collect g end = Ok []
+collect g (broken e) = Err e
 collect g (more a w) = both (g a) (collect g w)

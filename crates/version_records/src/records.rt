@@ -1,20 +1,19 @@
 // The records of the version sections, by place. A list is of Verdefs or of Verneeds; each record of
 // it has a chain of Verdauxs or of Vernauxs.
 ghost use Rattle.std.specs.Prelude.{◌≡◌, ◌+◌, ◌≤◌, ◌<◌};
-ghost use Rattle.version_records.specs.Records.{verdef_shape, verneed_shape, verdaux_shape, vernaux_shape, place_after, record_at, aux_at};
-ghost use Rattle.version_records.specs.RecordAnswers.{record_step, aux_step};
+ghost use Rattle.version_records.specs.Records.{verdef_shape, verneed_shape, verdaux_shape, vernaux_shape, place_after, left_at, offset_at, record_at, aux_at};
 
 use endian::kinds::Order;
 use endian::refusals::{
     BAD_VERDAUX_NEXT, BAD_VERDEF_AUX, BAD_VERDEF_NEXT, BAD_VERNAUX_NEXT, BAD_VERNEED_AUX,
     BAD_VERNEED_NEXT, Refusal, VERDAUX_SHORT, VERDEF_SHORT, VERNAUX_SHORT, VERNEED_SHORT,
 };
-use version_layout::steps::{Aux, AuxStep, Record, RecordStep};
+use version_layout::steps::{Aux, Record};
 use word::u32_at;
 
 // What a record of a list is tested for: its size, where its aux and its next stand, and the
 // refusals, in the order of the tests.
-#[derive(Clone, Copy)]
+#[derive(Clone, Copy, Debug, PartialEq, Eq)]
 struct ListShape {
     size: usize,
     aux: usize,
@@ -43,7 +42,7 @@ const VERNEED: ListShape = ListShape {
 };
 
 // The same of a record of a chain.
-#[derive(Clone, Copy)]
+#[derive(Clone, Copy, Debug, PartialEq, Eq)]
 struct ChainShape {
     size: usize,
     next: usize,
@@ -66,6 +65,7 @@ const VERNAUX: ChainShape = ChainShape {
 };
 
 // The place of the next record of a list: the end of `count` bytes where `next` is 0.
+#[tactic(auto, unfolding(crate::specs::Records::place_after))]
 fn place_after(count: usize, at: usize, next: usize) -> usize
     requires { at + next ≤ count }
     ensures { result ≡ place_after count at next }
@@ -73,33 +73,34 @@ fn place_after(count: usize, at: usize, next: usize) -> usize
     if next == 0 { count } else { at + next }
 }
 
+// How many bytes there are from a place on, which must be so many that the record there is not short.
+fn left_at(s: &[u8], at: usize, size: usize, short: Refusal) -> Result<usize, Refusal>
+    ensures { result ≡ left_at s.now at size short }
+{
+    let left = s.len().saturating_sub(at);
+    if left < size { Err(short) } else { Ok(left) }
+}
+
+// How far it is from a record on, as it says at a place: not past the end, which is `left` bytes away.
+fn offset_at(order: Order, s: &[u8], at: usize, left: usize, bad: Refusal) -> Result<usize, Refusal>
+    ensures { result ≡ offset_at order s.now at left bad }
+{
+    let offset = u32_at(order, s, at) as usize;
+    if left < offset { Err(bad) } else { Ok(offset) }
+}
+
 // The record of a list at a place. Refused in this order: it is short, as it is past the end; its
 // aux, then its next, lies past the end.
-fn record_at(shape: ListShape, order: Order, s: &[u8], at: usize) -> RecordStep
+#[tactic(auto, unfolding(crate::specs::Records::record_at))]
+fn record_at(shape: ListShape, order: Order, s: &[u8], at: usize) -> Result<Record, Refusal>
     requires { (0 < shape.size) × (shape.aux ≤ shape.size) × (shape.next ≤ shape.size) }
-    ensures { result ≡ record_step (record_at shape order s.now at) }
+    ensures { result ≡ record_at shape order s.now at }
 {
-    if s.len() < at {
-        let short = shape.short;
-        return RecordStep::Refused(short);
-    }
-    let left = s.len() - at;
-    if left < shape.size {
-        let short = shape.short;
-        return RecordStep::Refused(short);
-    }
-    let aux = u32_at(order, s, at + shape.aux) as usize;
-    if left < aux {
-        let bad_aux = shape.bad_aux;
-        return RecordStep::Refused(bad_aux);
-    }
-    let next = u32_at(order, s, at + shape.next) as usize;
-    if left < next {
-        let bad_next = shape.bad_next;
-        return RecordStep::Refused(bad_next);
-    }
-    RecordStep::Is(Record {
-        at: at,
+    let left = left_at(s, at, shape.size, shape.short)?;
+    let aux = offset_at(order, s, at + shape.aux, left, shape.bad_aux)?;
+    let next = offset_at(order, s, at + shape.next, left, shape.bad_next)?;
+    Ok(Record {
+        at,
         aux: at + aux,
         next: place_after(s.len(), at, next),
     })
@@ -107,54 +108,43 @@ fn record_at(shape: ListShape, order: Order, s: &[u8], at: usize) -> RecordStep
 
 // The record of a chain at a place. Refused in this order: it is short, as it is past the end; its
 // next lies past the end.
-fn aux_at(shape: ChainShape, order: Order, s: &[u8], at: usize) -> AuxStep
+#[tactic(auto, unfolding(crate::specs::Records::aux_at))]
+fn aux_at(shape: ChainShape, order: Order, s: &[u8], at: usize) -> Result<Aux, Refusal>
     requires { (0 < shape.size) × (shape.next ≤ shape.size) }
-    ensures { result ≡ aux_step (aux_at shape order s.now at) }
+    ensures { result ≡ aux_at shape order s.now at }
 {
-    if s.len() < at {
-        let short = shape.short;
-        return AuxStep::Refused(short);
-    }
-    let left = s.len() - at;
-    if left < shape.size {
-        let short = shape.short;
-        return AuxStep::Refused(short);
-    }
-    let next = u32_at(order, s, at + shape.next) as usize;
-    if left < next {
-        let bad_next = shape.bad_next;
-        return AuxStep::Refused(bad_next);
-    }
-    AuxStep::Is(Aux {
-        at: at,
+    let left = left_at(s, at, shape.size, shape.short)?;
+    let next = offset_at(order, s, at + shape.next, left, shape.bad_next)?;
+    Ok(Aux {
+        at,
         next: at + next,
     })
 }
 
 // The definition at a place.
-pub fn verdef_at(order: Order, s: &[u8], at: usize) -> RecordStep
-    ensures { result ≡ record_step (record_at verdef_shape order s.now at) }
+pub fn verdef_at(order: Order, s: &[u8], at: usize) -> Result<Record, Refusal>
+    ensures { result ≡ record_at verdef_shape order s.now at }
 {
     record_at(VERDEF, order, s, at)
 }
 
 // The need at a place.
-pub fn verneed_at(order: Order, s: &[u8], at: usize) -> RecordStep
-    ensures { result ≡ record_step (record_at verneed_shape order s.now at) }
+pub fn verneed_at(order: Order, s: &[u8], at: usize) -> Result<Record, Refusal>
+    ensures { result ≡ record_at verneed_shape order s.now at }
 {
     record_at(VERNEED, order, s, at)
 }
 
 // The aux of a definition at a place.
-pub fn verdaux_at(order: Order, s: &[u8], at: usize) -> AuxStep
-    ensures { result ≡ aux_step (aux_at verdaux_shape order s.now at) }
+pub fn verdaux_at(order: Order, s: &[u8], at: usize) -> Result<Aux, Refusal>
+    ensures { result ≡ aux_at verdaux_shape order s.now at }
 {
     aux_at(VERDAUX, order, s, at)
 }
 
 // The needed version at a place.
-pub fn vernaux_at(order: Order, s: &[u8], at: usize) -> AuxStep
-    ensures { result ≡ aux_step (aux_at vernaux_shape order s.now at) }
+pub fn vernaux_at(order: Order, s: &[u8], at: usize) -> Result<Aux, Refusal>
+    ensures { result ≡ aux_at vernaux_shape order s.now at }
 {
     aux_at(VERNAUX, order, s, at)
 }

@@ -1,2 +1,2 @@
--- `Passing`: the steps of a search for a zero.
-mod Passing
+-- `Finding`: what the library's search for a zero byte finds.
+mod Finding

@@ -17,24 +17,24 @@ in_range_lem table hash v e apart = subst (InRange table hash) (sym e) (start_ra
 pub returns-in_err-bloom_filter : goal.returns-in_err-bloom_filter
 returns-in_err-bloom_filter c =
     let a = c.args in
-    let table = table_at a.class a.order a.table.now a.layout a.count in
-    let filters : Err _ ≡ bloom_filter table a.hash = c.in_err-bloom_filter.ensures ∙ filter_any a.class a.order a.table.now a.layout a.count a.hash in
+    let table = table_at a.class a.order a.parts.table.now a.layout a.count in
+    let filters : Err _ ≡ bloom_filter table a.hash = c.in_err-bloom_filter.ensures ∙ filter_any a.class a.order a.parts.table.now a.layout a.count a.hash in
     rw (lookup_refuses table a.hash _ _ (sym filters)) grind arith
 
 pub returns-then-not-branch : goal.returns-then-not-branch
 returns-then-not-branch c =
     let a = c.args in
-    let table = table_at a.class a.order a.table.now a.layout a.count in
+    let table = table_at a.class a.order a.parts.table.now a.layout a.count in
     let filters : bloom_filter table a.hash ≡ Ok false =
-    sym (rw c.if-not-branch.true at c.in_ok-bloom_filter.ensures ∙ filter_any a.class a.order a.table.now a.layout a.count a.hash) in
+    sym (rw c.if-not-branch.true at c.in_ok-bloom_filter.ensures ∙ filter_any a.class a.order a.parts.table.now a.layout a.count a.hash) in
     sym (lookup_stops table a.hash _ filters)
 
 pub returns-then-start-eq0 : goal.returns-then-start-eq0
 returns-then-start-eq0 c =
     let a = c.args in
-    let table = table_at a.class a.order a.table.now a.layout a.count in
+    let table = table_at a.class a.order a.parts.table.now a.layout a.count in
     let filters : bloom_filter table a.hash ≡ Ok true =
-    sym (rw c.if-not-branch.false at c.in_ok-bloom_filter.ensures ∙ filter_any a.class a.order a.table.now a.layout a.count a.hash) in
+    sym (rw c.if-not-branch.false at c.in_ok-bloom_filter.ensures ∙ filter_any a.class a.order a.parts.table.now a.layout a.count a.hash) in
     sym (lookup_nowhere table a.hash _ filters (sym c.start_of-start.ensures ∙ c.if-start-eq0.true))
 
 pub overflow_sub-count : goal.overflow_sub-count
@@ -57,9 +57,9 @@ pub returns : goal.returns
 unfolding walk_pairs
 returns c =
     let a = c.args in
-    let table = table_at a.class a.order a.table.now a.layout a.count in
+    let table = table_at a.class a.order a.parts.table.now a.layout a.count in
     let filters : bloom_filter table a.hash ≡ Ok true =
-    sym (rw c.if-not-branch.false at c.in_ok-bloom_filter.ensures ∙ filter_any a.class a.order a.table.now a.layout a.count a.hash) in
+    sym (rw c.if-not-branch.false at c.in_ok-bloom_filter.ensures ∙ filter_any a.class a.order a.parts.table.now a.layout a.count a.hash) in
     let v = c.start_of-start.result in
     let walks = lookup_walks table a.hash _ filters v (sym c.start_of-start.ensures) c.if-start-eq0.false in
     let size : v + c.smaller.result - v ≡ min (a.count - v) (a.layout.value_count - (v - a.layout.symbol_base)) =

@@ -11,6 +11,7 @@ use lib.Dec.{eqb}
 use Rattle.endian.specs.declared.kinds.Class.{Class}
 use Rattle.endian.specs.declared.kinds.Order.{Order}
 use Rattle.lookup.specs.Wanted.{Parts, Asked, wanted}
+use Rattle.lookup.specs.Lent.{parts_of, asked_of}
 use Rattle.gnu_table.specs.Places.{value_at, pair_ends}
 use Rattle.gnu.specs.Walk.{pair_matches, walk_pairs}
 use Rattle.gnu.proofs.Walking.{walk_from_start, walk_from_on}
@@ -33,16 +34,9 @@ pub loop-i-preserved : goal.loop-i-preserved
 loop-i-preserved c =
     let a = c.args in
     let i = c.loop-i.i in
-    let parts : Parts = record {
-      table = a.table.now;
-      symbols = a.symbols.now;
-      strings = a.strings.now;
-      versyms = a.versyms.now;
-      store = a.store.now;
-      version_strings = a.version_strings.now;
-    } in
-    let asked : Asked = record { name = a.name.now; need = a.need; need_name = a.need_name.now } in
-    let going : pair_ends a.order a.table.now a.values_at a.base i ≡ false =
+    let parts = parts_of a.parts in
+    let asked = asked_of a.asked in
+    let going : pair_ends a.order parts.table a.values_at a.base i ≡ false =
     rw (← c.word_of-value.ensures) (ne_eqb (c.word_of-value.result % 2) 1 (search rules)) in
     let missed : pair_matches a.class a.order parts asked a.hash a.values_at a.base i ≡ false =
     no_match a.class a.order parts asked a.hash a.values_at a.base i c.word_of-value.result c.word_of-value.ensures
@@ -51,5 +45,5 @@ loop-i-preserved c =
       | by_value w ↦ rw (ne_eqb _ _ w.if-value-hash.false)
     ]) in
     let on = walk_from_on (pair_matches a.class a.order parts asked a.hash a.values_at a.base)
-    (pair_ends a.order a.table.now a.values_at a.base) c.loop-i.probes i a.end (omega arith) missed going in
+    (pair_ends a.order parts.table a.values_at a.base) c.loop-i.probes i a.end (omega arith) missed going in
     (omega arith, sym on ∙ c.loop-i.invariant.1)

@@ -3,7 +3,7 @@
 use Prim.Native.Nat.{◌+◌, ◌-◌}
 use mathlib.Core.Path.{◌≡◌}
 use Rattle.lookup.specs.Pick.{from}
-use Rattle.lookup.specs.Wanted.{Parts, Asked}
+use Rattle.lookup.specs.Lent.{parts_of, asked_of}
 use Rattle.gnu_table.specs.Places.{pair_ends}
 use Rattle.gnu.specs.Walk.{pair_matches, walk_pairs}
 use Rattle.gnu.proofs.Walking.{walk_from}
@@ -11,15 +11,8 @@ use Rattle.gnu.proofs.walk.walk.Given as goal
 
 abbrev pub invariant-loop-i : goal.invariant-loop-i
 invariant-loop-i l =
-    let parts : Parts = record {
-      table = l.table;
-      symbols = l.symbols;
-      strings = l.strings;
-      versyms = l.versyms;
-      store = l.store;
-      version_strings = l.version_strings;
-    } in
-    let asked : Asked = record { name = l.name; need = l.need; need_name = l.need_name } in
+    let parts = parts_of l.parts in
+    let asked = asked_of l.asked in
     (l.start + l.probes ≡ l.i)
-    × (walk_from (pair_matches l.class l.order parts asked l.hash l.values_at l.base) (pair_ends l.order l.table l.values_at l.base) l.probes (from l.i (l.end - l.i))
+    × (walk_from (pair_matches l.class l.order parts asked l.hash l.values_at l.base) (pair_ends l.order parts.table l.values_at l.base) l.probes (from l.i (l.end - l.i))
     ≡ walk_pairs l.class l.order parts asked l.hash l.values_at l.base l.start l.end)

@@ -8,8 +8,8 @@ use Rattle.sysv.proofs.find.lookup_at.Goals as goal
 
 pub returns-then-buckets-eq0 : goal.returns-then-buckets-eq0
 returns-then-buckets-eq0 c =
-    sym (lookup_none c.args.class c.args.order c.args.table.now c.args.symbols.now
-    c.args.strings.now _ _ c.args.header c.requires c.if-buckets-eq0.true)
+    sym (lookup_none c.args.class c.args.order c.args.parts.table.now c.args.parts.symbols.now
+    c.args.parts.strings.now _ _ c.args.header c.requires c.if-buckets-eq0.true)
 
 pub overflow_cast-hash : goal.overflow_cast-hash
 overflow_cast-hash c =
@@ -36,5 +36,5 @@ pub returns : goal.returns
 returns c =
     c.walk.ensures
     ∙ (rw c.u32_at-start.ensures (sym
-    (lookup_walk c.args.class c.args.order c.args.table.now c.args.symbols.now
-    c.args.strings.now _ _ c.args.header c.requires c.if-buckets-eq0.false)))
+    (lookup_walk c.args.class c.args.order c.args.parts.table.now c.args.parts.symbols.now
+    c.args.parts.strings.now _ _ c.args.header c.requires c.if-buckets-eq0.false)))

@@ -1,8 +1,0 @@
--- `version_layout::steps::record_refusal` meets its contract. Assumes nothing.
-use Rattle.version_layout.proofs.steps.record_refusal.Goals as goal
-
-pub returns-in-Is : goal.returns-in-Is
-returns-in-Is c = cc
-
-pub returns-in-Refused : goal.returns-in-Refused
-returns-in-Refused c = cc
