@@ -5,7 +5,7 @@ ghost use Rattle.gnu_rules.specs.HeaderRules.{broken_header};
 use gnu_table::header::Layout;
 
 // The first broken rule of G1 to G5 in a header over so many symbols, if one is broken.
-#[tactic(auto, using(crate::proofs::Powers::power_is), unfolding(crate::specs::HeaderRules::broken_header))]
+#[tactic(auto, using(crate::proofs::Powers::power_is, crate::proofs::Header::fifth_broken, crate::proofs::Header::none_broken), unfolding(crate::specs::HeaderRules::broken_header))]
 pub fn broken_header(layout: Layout, count: u32) -> Option<u8>
     ensures { result ≡ broken_header layout count }
 {
