@@ -2,9 +2,9 @@
 ghost use Rattle.std.specs.Prelude.{◌≡◌};
 ghost use Rattle.export_notes.specs.Notes.{no_note, note_answer, note_step_answer, trimmed_answer};
 
-use endian::refusals::{LIMIT, Refusal, TOO_LONG, UNKNOWN_KIND};
+use endian::refusals::{LIMIT, Refusal, TOO_LONG};
 use export::answers::{NumberAnswer, no_number, number_answer};
-use export::kinds::{is_kind, order_of, unless_long};
+use export::kinds::known_order;
 use note::reader::{Note, reader_for};
 use note_name::trimmed;
 
@@ -63,13 +63,14 @@ pub(crate) fn note_answer(found: Result<Option<Note>, Refusal>, next: usize) -> 
 pub extern "C" fn fetulombo_note_step(order: u8, align: u64, bytes: &[u8], at: usize) -> NoteAnswer
     ensures { result ≡ note_step_answer order align bytes.now at }
 {
-    if !is_kind(order) {
-        return no_note(unless_long(bytes, UNKNOWN_KIND).0, bytes.len());
-    }
+    let order = match known_order(order, &[bytes]) {
+        Ok(order) => order,
+        Err(refusal) => return no_note(refusal.0, bytes.len()),
+    };
     if LIMIT < bytes.len() {
         return no_note(TOO_LONG.0, bytes.len());
     }
-    match reader_for(order_of(order), align) {
+    match reader_for(order, align) {
         Ok(mut reader) => {
             reader.at = at;
             let found = reader.step(bytes);

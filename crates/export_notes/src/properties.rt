@@ -3,9 +3,9 @@
 ghost use Rattle.std.specs.Prelude.{◌≡◌};
 ghost use Rattle.export_notes.specs.Properties.{gnu_properties_answer, no_property, property_answer, property_step_answer, property_number_answer};
 
-use endian::refusals::{Refusal, UNKNOWN_KIND};
+use endian::refusals::Refusal;
 use export::answers::{NumberAnswer, no_number, number_answer};
-use export::kinds::{are_kinds, class_of, is_kind, order_of, unless_long};
+use export::kinds::{known, known_order};
 use note_properties::gnu_properties;
 use property_reader::{Property, PropertyReader, property_number};
 
@@ -33,10 +33,10 @@ pub extern "C" fn fetulombo_gnu_properties(
 ) -> NumberAnswer
     ensures { result ≡ gnu_properties_answer class order kind name.now descriptor.now }
 {
-    if !are_kinds(class, order) {
-        return no_number(unless_long(name, unless_long(descriptor, UNKNOWN_KIND)));
-    }
-    match gnu_properties(class_of(class), order_of(order), kind, name, descriptor) {
+    let found = known(class, order, &[name, descriptor]).and_then(|(class, order)| gnu_properties(
+        class, order, kind, name, descriptor,
+    ));
+    match found {
         Ok(Some(_)) => number_answer(1),
         Ok(None) => number_answer(0),
         Err(refusal) => no_number(refusal),
@@ -86,16 +86,14 @@ pub extern "C" fn fetulombo_property_step(
 ) -> PropertyAnswer
     ensures { result ≡ property_step_answer class order descriptor.now at }
 {
-    if !are_kinds(class, order) {
-        return no_property(unless_long(descriptor, UNKNOWN_KIND).0, descriptor.len());
+    match known(class, order, &[descriptor]) {
+        Ok((class, order)) => {
+            let mut reader = PropertyReader { class, order, at };
+            let found = reader.step(descriptor);
+            property_answer(found, reader.at)
+        }
+        Err(refusal) => no_property(refusal.0, descriptor.len()),
     }
-    let mut reader = PropertyReader {
-        class: class_of(class),
-        order: order_of(order),
-        at,
-    };
-    let found = reader.step(descriptor);
-    property_answer(found, reader.at)
 }
 
 // A property's data as a number.
@@ -103,10 +101,8 @@ pub extern "C" fn fetulombo_property_step(
 pub extern "C" fn fetulombo_property_number(order: u8, part: &[u8]) -> NumberAnswer
     ensures { result ≡ property_number_answer order part.now }
 {
-    if !is_kind(order) {
-        return no_number(unless_long(part, UNKNOWN_KIND));
-    }
-    match property_number(order_of(order), part) {
+    let read = known_order(order, &[part]).and_then(|order| property_number(order, part));
+    match read {
         Ok(value) => number_answer(value as u64),
         Err(refusal) => no_number(refusal),
     }
