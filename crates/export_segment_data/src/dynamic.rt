@@ -74,8 +74,8 @@ pub extern "C" fn fetulombo_segment_dynamic_entry(
 ) -> DynamicAnswer
     ensures { result ≡ dynamic_entry_answer class order bytes.now number }
 {
-    let found = known(class, order, &[bytes]).and_then(|(class, order)| dynamic_entry(
-        class, order, bytes, number,
-    ));
+    let found = known(class, order, &[bytes]).and_then(|(class, order)| {
+        dynamic_entry(class, order, bytes, number)
+    });
     entry_answer(found)
 }
