@@ -33,9 +33,9 @@ pub extern "C" fn fetulombo_gnu_properties(
 ) -> NumberAnswer
     ensures { result ≡ gnu_properties_answer class order kind name.now descriptor.now }
 {
-    let found = known(class, order, &[name, descriptor]).and_then(|(class, order)| gnu_properties(
-        class, order, kind, name, descriptor,
-    ));
+    let found = known(class, order, &[name, descriptor]).and_then(|(class, order)| {
+        gnu_properties(class, order, kind, name, descriptor)
+    });
     match found {
         Ok(Some(_)) => number_answer(1),
         Ok(None) => number_answer(0),

@@ -85,9 +85,9 @@ pub extern "C" fn fetulombo_segment_at(
 ) -> SegmentAnswer
     ensures { result ≡ segment_at_answer class order table.now number }
 {
-    let found = known(class, order, &[table]).and_then(|(class, order)| segment_at(
-        class, order, table, number,
-    ));
+    let found = known(class, order, &[table]).and_then(|(class, order)| {
+        segment_at(class, order, table, number)
+    });
     segment_answer(found)
 }
 
