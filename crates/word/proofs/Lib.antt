@@ -1,2 +1,3 @@
--- `Joined`: the word that the library makes of bytes.
+-- `Joined`: the word that the library makes of bytes. `Made`: bytes that a closure gave.
 mod Joined
+mod Made

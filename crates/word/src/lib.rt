@@ -7,21 +7,18 @@ ghost use Rattle.endian.specs.Word.{word_at};
 ghost use Rattle.word.specs.Bytes.{BytesAt};
 
 use endian::kinds::Order;
+use std::array;
 
 // The N bytes at a place. A byte past the end is 0.
 fn bytes_at<const N: usize>(s: &[u8], at: usize) -> [u8; N]
     ensures { BytesAt N s.now at result }
 {
-    let mut bytes = [0; N];
     let Some(rest) = s.get(at..) else {
-        return bytes;
+        return [0; N];
     };
     match rest.first_chunk() {
         Some(whole) => *whole,
-        None => {
-            bytes[..rest.len()].copy_from_slice(rest);
-            bytes
-        }
+        None => array::from_fn(|i| rest.get(i).copied().unwrap_or(0)),
     }
 }
 
