@@ -1,6 +1,7 @@
 -- Need not be believed: G9 by runs of neighbours in one bucket, as one pass over the symbols and one over the buckets see
 -- them. After G7 it is G9 itself: `Wrong.least_wrong_lem` of `gnu_check`.
 --     lesser             the lesser of two numbers, where there are any
+--     is_bucket          a bucket is one that is known
 --     may_be             by its value alone, a symbol may be of a bucket
 --     run_start          the start of the run of equal buckets that a hashed symbol is in, by how far it is past symbol_base
 --     misplaced          a symbol whose bucket does not hold the start of its run
@@ -8,18 +9,21 @@
 --     stray              a bucket that holds neither 0 nor such a symbol
 --     least_misplaced    the lowest bucket of a misplaced symbol
 --     least_wrong        the lowest bucket that is stray, or that a misplaced symbol is in
---     wrong_bucket       the same, or the number of buckets
+--     wrong_bucket       the same; of no buckets, none is wrong
 -- Assumes nothing.
-use Rattle.std.specs.Prelude.{ℕ, zero, suc, ◌+◌, ◌-◌, ◌*◌, ◌/◌, ◌%◌, min, Bool, cond, not, ◌&&◌, ◌||◌, leb, ltb, eqb}
-use Rattle.std.proofs.Math.Option.{Option, some, none, get_or}
-use Rattle.lookup.specs.Pick.{from, first_of}
+use Rattle.std.specs.Prelude.{ℕ, zero, suc, ◌+◌, ◌-◌, ◌*◌, ◌/◌, ◌%◌, min, Bool, cond, not, ◌&&◌, ◌||◌, leb, ltb, eqb, false, Option, Some, None}
+use Rattle.lookup.specs.Search.{first_from}
 use Rattle.gnu_table.specs.Table.{GnuTable, value_of}
 use Rattle.gnu_rules.specs.Rules.{gnu_bucket_of, in_bucket}
 
 abbrev pub lesser : Option ℕ → Option ℕ → Option ℕ
-lesser none o = o
-lesser (some a) none = some a
-lesser (some a) (some b) = some (min a b)
+lesser None o = o
+lesser (Some a) None = Some a
+lesser (Some a) (Some b) = Some (min a b)
+
+abbrev pub is_bucket : ℕ → Option ℕ → Bool
+is_bucket b None = false
+is_bucket b (Some bucket) = eqb bucket b
 
 -- the even number that equals the value but for the low bit, or the odd one, is the hash of a symbol of bucket b
 abbrev pub may_be : (value buckets b : ℕ) → Bool
@@ -44,12 +48,12 @@ module _ (t : GnuTable) where
 
   -- of k symbols from i on
   unfoldable pub least_misplaced : ℕ → ℕ → Option ℕ
-  least_misplaced i zero = none
-  least_misplaced i (suc k) = lesser (cond (misplaced i) (some (gnu_bucket_of t i)) none) (least_misplaced (suc i) k)
+  least_misplaced i zero = None
+  least_misplaced i (suc k) = lesser (cond (misplaced i) (Some (gnu_bucket_of t i)) None) (least_misplaced (suc i) k)
 
   abbrev pub least_wrong : Option ℕ
-  least_wrong = lesser (first_of stray (from 0 t.bucket_count)) (least_misplaced t.base (t.count - t.base))
+  least_wrong = lesser (first_from stray 0 t.bucket_count) (least_misplaced t.base (t.count - t.base))
 
-  -- the lowest wrong bucket, or the number of buckets
-  unfoldable pub wrong_bucket : ℕ
-  wrong_bucket = cond (eqb t.bucket_count 0) 0 (get_or least_wrong t.bucket_count)
+  -- the lowest wrong bucket, if there is one
+  unfoldable pub wrong_bucket : Option ℕ
+  wrong_bucket = cond (eqb t.bucket_count 0) None least_wrong

@@ -3,18 +3,16 @@
 // table that keeps G7 they find what breaks G9.
 #![tactic(auto)]
 
-ghost use Rattle.std.proofs.Math.Option.{get_or};
-ghost use Rattle.std.specs.Prelude.{◌≡◌, cond, eqb, ◌-◌, ◌%◌, ◌<◌, min};
+ghost use Rattle.std.specs.Prelude.{◌≡◌, cond, eqb, ◌-◌, ◌%◌, ◌<◌, Some};
 ghost use Rattle.gnu_table.specs.Layout.{table_with};
 ghost use Rattle.gnu_check_hashes.specs.Names.{hash_in};
 ghost use Rattle.lookup.specs.Search.{first_from};
-ghost use Rattle.gnu_check_buckets.specs.Runs.{may_be, stray, least_misplaced, wrong_bucket};
+ghost use Rattle.gnu_check_buckets.specs.Runs.{lesser, is_bucket, may_be, stray, least_misplaced, wrong_bucket};
 
 use endian::kinds::{Class, Order};
 use gnu_check_hashes::hashes::symbol_hash;
 use gnu_table::header::Layout;
 use gnu_table::words::word_of;
-use lookup::smaller;
 use symbol::table::SymbolIndex;
 
 // The bucket of a symbol.
@@ -32,27 +30,41 @@ fn bucket_of(
     symbol_hash(class, order, symbols, strings, symbol) % buckets
 }
 
+// The lesser of two numbers, where there are any.
+fn lesser(a: Option<u32>, b: Option<u32>) -> Option<u32>
+    ensures { result ≡ lesser a b }
+{
+    match (a, b) {
+        (Some(a), Some(b)) => Some(a.min(b)),
+        (Some(a), None) => Some(a),
+        (None, b) => b,
+    }
+}
+
 // Where the run of symbol i of bucket b starts: with the run of the symbol before, if that is of the
 // same bucket.
-fn run_start(last: u32, b: u32, start: u32, i: u32) -> u32
-    ensures { result ≡ cond (eqb last b) start i }
+fn run_start(last: Option<u32>, b: u32, start: u32, i: u32) -> u32
+    ensures { result ≡ cond (is_bucket b last) start i }
 {
-    if last == b { start } else { i }
+    match last {
+        Some(bucket) => if bucket == b { start } else { i },
+        None => i,
+    }
 }
 
 // The lowest of the wrong buckets so far, with one that holds a number and should hold another.
-fn lower_wrong(best: u32, b: u32, held: u32, right: u32) -> u32
-    ensures { result ≡ cond (eqb held right) best (min best b) }
+fn lower_wrong(best: Option<u32>, b: u32, held: u32, right: u32) -> Option<u32>
+    ensures { result ≡ cond (eqb held right) best (lesser best (Some b)) }
 {
     if held == right {
         best
     } else {
-        smaller(best, b)
+        lesser(best, Some(b))
     }
 }
 
-// The lowest bucket of a symbol whose bucket does not hold the start of its run, or the number of
-// buckets. `start` is where the current run starts, `last` the bucket of the symbol before.
+// The lowest bucket of a symbol whose bucket does not hold the start of its run, where there is one.
+// `start` is where the current run starts, `last` the bucket of the symbol before.
 fn least_misplaced(
     class: Class,
     order: Order,
@@ -61,25 +73,21 @@ fn least_misplaced(
     strings: &[u8],
     layout: Layout,
     count: u32,
-) -> u32
+) -> Option<u32>
     requires { 0 < layout.bucket_count }
     ensures { result
-        ≡ get_or
-        (least_misplaced (table_with class order table.now symbols.now strings.now layout count)
-        layout.symbol_base (count - layout.symbol_base))
-        layout.bucket_count }
+        ≡ least_misplaced (table_with class order table.now symbols.now strings.now layout count)
+        layout.symbol_base (count - layout.symbol_base) }
 {
-    let mut best = layout.bucket_count;
+    let mut best = None;
     let mut start = layout.symbol_base;
-    let mut last = layout.bucket_count;
-    let mut i = layout.symbol_base;
-    while i < count {
+    let mut last = None;
+    for i in layout.symbol_base..count {
         let symbol = SymbolIndex(i);
         let b = bucket_of(class, order, symbols, strings, layout.bucket_count, symbol);
         start = run_start(last, b, start, i);
         best = lower_wrong(best, b, word_of(order, table, layout.buckets_at, b), start);
-        last = b;
-        i += 1;
+        last = Some(b);
     }
     best
 }
@@ -90,10 +98,7 @@ fn may_be(value: u32, buckets: u32, b: u32) -> bool
     ensures { result ≡ may_be value buckets b }
 {
     let even = value / 2 * 2;
-    if even % buckets == b {
-        return true;
-    }
-    (even + 1) % buckets == b
+    even % buckets == b || (even + 1) % buckets == b
 }
 
 // Whether a bucket holds neither 0 nor the first symbol of a run of its own, with a value that may be
@@ -137,7 +142,7 @@ fn is_stray(
     bucket_of(class, order, symbols, strings, layout.bucket_count, before) == b
 }
 
-// The lowest such bucket, or the number of buckets.
+// The lowest such bucket, where there is one.
 fn lowest_stray(
     class: Class,
     order: Order,
@@ -146,25 +151,20 @@ fn lowest_stray(
     strings: &[u8],
     layout: Layout,
     count: u32,
-) -> u32
+) -> Option<u32>
     requires { 0 < layout.bucket_count }
     ensures { result
         ≡ first_from
         (stray (table_with class order table.now symbols.now strings.now layout count))
         0 layout.bucket_count }
 {
-    let mut b: u32 = 0;
-    while b < layout.bucket_count {
-        if is_stray(class, order, table, symbols, strings, layout, count, b) {
-            return b;
-        }
-        b += 1;
-    }
-    layout.bucket_count
+    (0..layout.bucket_count).find(|b| is_stray(
+        class, order, table, symbols, strings, layout, count, *b,
+    ))
 }
 
-// The lowest bucket that is stray, or that a misplaced symbol is in, or the number of buckets. In a
-// table that keeps G7 it is the lowest that breaks G9.
+// The lowest bucket that is stray, or that a misplaced symbol is in, where there is one. In a table that
+// keeps G7 it is the lowest that breaks G9.
 pub fn lowest_wrong_bucket(
     class: Class,
     order: Order,
@@ -173,14 +173,14 @@ pub fn lowest_wrong_bucket(
     strings: &[u8],
     layout: Layout,
     count: u32,
-) -> u32
+) -> Option<u32>
     ensures { result
         ≡ wrong_bucket (table_with class order table.now symbols.now strings.now layout count) }
 {
     if layout.bucket_count == 0 {
-        return 0;
+        return None;
     }
-    smaller(
+    lesser(
         lowest_stray(class, order, table, symbols, strings, layout, count),
         least_misplaced(class, order, table, symbols, strings, layout, count),
     )

@@ -3,11 +3,11 @@
 --     last_in          the next symbol is of another bucket, or there is none
 --     last_of_run      the same in a table
 --     ends_run         low bit 1 exactly at the last symbol of a run
---     wrong_end        the lowest hashed symbol whose low bit is wrong, or the number of symbols
+--     wrong_end        the lowest hashed symbol whose low bit is wrong, if there is one
 --     chain_start      the start of the chain that a hashed symbol is in, by the low bits and how far it is past symbol_base
 --     longest_chain    the longest chain, by the low bits, or 0
 -- Assumes nothing.
-use Rattle.std.specs.Prelude.{ℕ, zero, suc, ◌+◌, ◌-◌, ◌%◌, Bool, cond, not, ◌&&◌, List, map, ltb, eqb}
+use Rattle.std.specs.Prelude.{ℕ, zero, suc, ◌+◌, ◌-◌, ◌%◌, Bool, cond, not, ◌&&◌, List, map, ltb, eqb, Option, None}
 use Rattle.std.specs.Bool.{beq}
 use Rattle.endian.specs.declared.kinds.Class.{Class}
 use Rattle.endian.specs.declared.kinds.Order.{Order}
@@ -30,8 +30,8 @@ module _ (t : GnuTable) where
   ends_run i = beq (odd (value_of t i)) (last_of_run i)
 
   -- of no buckets, none is wrong
-  unfoldable pub wrong_end : ℕ
-  wrong_end = cond (eqb t.bucket_count 0) t.count (first_from (λ i. not (ends_run i)) t.base t.count)
+  unfoldable pub wrong_end : Option ℕ
+  wrong_end = cond (eqb t.bucket_count 0) None (first_from (λ i. not (ends_run i)) t.base t.count)
 
 -- by symbol_base and the values, by place
 module _ (base : ℕ) (value : ℕ → ℕ) where

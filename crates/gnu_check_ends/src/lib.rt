@@ -2,7 +2,7 @@
 // longest chain, by these bits.
 #![tactic(auto)]
 
-ghost use Rattle.std.specs.Prelude.{cond, ◌≡◌, ◌+◌, ◌*◌, ◌≤◌, ◌<◌, max};
+ghost use Rattle.std.specs.Prelude.{cond, ◌≡◌, ◌+◌, ◌*◌, ◌≤◌, ◌<◌, option_map};
 ghost use Rattle.endian.specs.Word.{word_at};
 ghost use Rattle.symbol.specs.Table.{symbol_index};
 ghost use Rattle.gnu_table.specs.Table.{odd};
@@ -68,8 +68,8 @@ fn ends_right(
     )
 }
 
-// The lowest hashed symbol whose low bit is not 1 exactly if it is the last of its run, or number
-// `count`; always that without buckets. In a table that keeps G9 it is the lowest that breaks G10.
+// The lowest hashed symbol whose low bit is not 1 exactly if it is the last of its run, where there is
+// one; none without buckets. In a table that keeps G9 it is the lowest that breaks G10.
 pub fn lowest_wrong_end(
     class: Class,
     order: Order,
@@ -78,17 +78,16 @@ pub fn lowest_wrong_end(
     strings: &[u8],
     layout: Layout,
     count: u32,
-) -> SymbolIndex
+) -> Option<SymbolIndex>
     ensures { result
-        ≡ symbol_index
+        ≡ option_map symbol_index
         (wrong_end (table_with class order table.now symbols.now strings.now layout count)) }
 {
     if layout.bucket_count == 0 {
-        return SymbolIndex(count);
+        return None;
     }
-    let mut i = layout.symbol_base;
-    while i < count {
-        if !ends_right(
+    (layout.symbol_base..count)
+        .find(|i| !ends_right(
             class,
             order,
             table,
@@ -96,19 +95,9 @@ pub fn lowest_wrong_end(
             strings,
             layout,
             count,
-            SymbolIndex(i),
-        ) {
-            return SymbolIndex(i);
-        }
-        i += 1;
-    }
-    SymbolIndex(count)
-}
-
-fn larger(a: u32, b: u32) -> u32
-    ensures { result ≡ max a b }
-{
-    if a <= b { b } else { a }
+            SymbolIndex(*i),
+        ))
+        .map(SymbolIndex)
 }
 
 // Where the chain of the next symbol starts: there, if the low bit of the value before it is 1.
@@ -125,12 +114,11 @@ pub fn longest_chain(order: Order, table: &[u8], layout: Layout, count: u32) -> 
 {
     let mut longest: u32 = 0;
     let mut start = layout.symbol_base;
-    let mut i = layout.symbol_base;
-    while i < count {
+    for i in layout.symbol_base..count {
         let value = word_of(order, table, layout.values_at, i - layout.symbol_base);
-        i += 1;
-        longest = larger(longest, i - start);
-        start = chain_start(value, start, i);
+        let next = i + 1;
+        longest = longest.max(next - start);
+        start = chain_start(value, start, next);
     }
     longest as usize
 }

@@ -1,17 +1,14 @@
 -- Both bloom bits of a symbol are set exactly if the bloom filter lets its hash pass, where there are bloom words and the
 -- shift is no more than 31. Assumes nothing.
-use Prim.Native.Nat.{ℕ, ◌≤◌}
-use mathlib.Core.Path.{◌≡◌, refl}
-use mathlib.Core.Bool.{Bool, true, false, cond, not, ◌&&◌}
-use native.Mathlib.Omega.{arith}
+use Rattle.std.proofs.Common.{◌≡◌, ℕ, ◌≤◌, Bool, true, false, cond, not, ◌&&◌, Result, Ok, refl, arith}
 use borrow.Author.Tests.{ne_eqb, le-ltb}
-use Rattle.gnu_table.specs.declared.filter.Bloom.TheVariants.{Passes, Stops}
+use Rattle.endian.specs.declared.refusals.Refusal.{Refusal}
 use Rattle.gnu_table.specs.Table.{GnuTable, bloom_first, bloom_second, bloom_filter}
 use Rattle.gnu_rules.specs.Rules.{gnu_hash_at, bloom_bits_set}
 use Rattle.gnu_check_values.specs.Blooms.{passes, hash_passes}
 
 both : (first second : Bool)
-    → passes (cond (not first) Stops (cond (not second) Stops Passes)) ≡ first && second
+    → passes (cond {A = Result Bool Refusal} (not first) (Ok false) (cond (not second) (Ok false) (Ok true))) ≡ first && second
 both true true = refl
 both true false = refl
 both false second = refl

@@ -1,5 +1,5 @@
 // G8: both bloom bits of each hashed symbol are set.
-ghost use Rattle.std.specs.Prelude.{not, ◌≡◌};
+ghost use Rattle.std.specs.Prelude.{not, ◌≡◌, option_map};
 ghost use Rattle.symbol.specs.Table.{symbol_index};
 ghost use Rattle.gnu_table.specs.Layout.{table_with};
 ghost use Rattle.lookup.specs.Search.{first_from};
@@ -7,7 +7,7 @@ ghost use Rattle.gnu_check_values.specs.Blooms.{hash_passes};
 
 use endian::kinds::{Class, Order};
 use gnu_check_hashes::hashes::symbol_hash;
-use gnu_table::filter::{Bloom, bloom_filter};
+use gnu_table::filter::bloom_filter;
 use gnu_table::header::Layout;
 use symbol::table::SymbolIndex;
 
@@ -24,14 +24,10 @@ fn has_bits(
         ≡ hash_passes (table_with class order table.now symbols.now strings.now layout 0) symbol.0 }
 {
     let hash = symbol_hash(class, order, symbols, strings, symbol);
-    match bloom_filter(class, order, table, layout, hash) {
-        Bloom::Passes => true,
-        Bloom::Stops => false,
-        Bloom::Refuses => false,
-    }
+    bloom_filter(class, order, table, layout, hash).unwrap_or(false)
 }
 
-// The lowest hashed symbol whose hash the bloom filter does not let pass, or number `count`.
+// The lowest hashed symbol whose hash the bloom filter does not let pass, where there is one.
 pub fn lowest_unset(
     class: Class,
     order: Order,
@@ -40,28 +36,23 @@ pub fn lowest_unset(
     strings: &[u8],
     layout: Layout,
     count: u32,
-) -> SymbolIndex
+) -> Option<SymbolIndex>
     ensures { result
-        ≡ symbol_index
+        ≡ option_map symbol_index
         (first_from
         (λ i. not
         (hash_passes (table_with class order table.now symbols.now strings.now layout count) i))
         layout.symbol_base count) }
 {
-    let mut i = layout.symbol_base;
-    while i < count {
-        if !has_bits(
+    (layout.symbol_base..count)
+        .find(|i| !has_bits(
             class,
             order,
             table,
             symbols,
             strings,
             layout,
-            SymbolIndex(i),
-        ) {
-            return SymbolIndex(i);
-        }
-        i += 1;
-    }
-    SymbolIndex(count)
+            SymbolIndex(*i),
+        ))
+        .map(SymbolIndex)
 }

@@ -1,5 +1,5 @@
 // G7: each hashed symbol's value is its name's hash but for the low bit.
-ghost use Rattle.std.specs.Prelude.{not, ◌≡◌, ◌≤◌};
+ghost use Rattle.std.specs.Prelude.{not, ◌≡◌, ◌≤◌, option_map};
 ghost use Rattle.symbol.specs.Table.{symbol_index};
 ghost use Rattle.gnu_table.specs.Layout.{table_with};
 ghost use Rattle.gnu_rules.specs.Rules.{value_is_hash};
@@ -33,7 +33,7 @@ fn value_is_right(
     value / 2 == symbol_hash(class, order, symbols, strings, symbol) / 2
 }
 
-// The lowest hashed symbol whose value is wrong, or number `count`.
+// The lowest hashed symbol whose value is wrong, where there is one.
 pub fn lowest_wrong_value(
     class: Class,
     order: Order,
@@ -42,28 +42,25 @@ pub fn lowest_wrong_value(
     strings: &[u8],
     layout: Layout,
     count: u32,
-) -> SymbolIndex
+) -> Option<SymbolIndex>
     ensures { result
-        ≡ symbol_index
+        ≡ option_map symbol_index
         (first_from
         (λ i. not
         (value_is_hash (table_with class order table.now symbols.now strings.now layout count) i))
         layout.symbol_base count) }
 {
-    let mut i = layout.symbol_base;
-    while i < count {
-        if !value_is_right(
-            class,
-            order,
-            table,
-            symbols,
-            strings,
-            layout,
-            SymbolIndex(i),
-        ) {
-            return SymbolIndex(i);
-        }
-        i += 1;
-    }
-    SymbolIndex(count)
+    (layout.symbol_base..count)
+        .find(|i| {
+            !value_is_right(
+                class,
+                order,
+                table,
+                symbols,
+                strings,
+                layout,
+                SymbolIndex(*i),
+            )
+        })
+        .map(SymbolIndex)
 }

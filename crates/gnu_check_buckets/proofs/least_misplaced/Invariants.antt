@@ -1,6 +1,5 @@
 -- `gnu_check_buckets::least_misplaced` meets its contract. The invariant: the lesser of the best so far and of what the rest
--- gives is the answer. The measure is what is left of the symbols. Assumes nothing.
-use Prim.Native.Nat.{◌-◌}
+-- gives is the answer. Assumes nothing.
 use Rattle.gnu_table.specs.Layout.{table_with}
 use Rattle.gnu_check_buckets.proofs.Turns.{Passing}
 use Rattle.gnu_check_buckets.proofs.least_misplaced.Given as goal
@@ -8,6 +7,3 @@ use Rattle.gnu_check_buckets.proofs.least_misplaced.Given as goal
 abbrev pub invariant-loop-i : goal.invariant-loop-i
 invariant-loop-i l =
     Passing (table_with l.class l.order l.table l.symbols l.strings l.layout l.count) l.best l.start l.last l.i
-
-abbrev pub decreases-loop-i : goal.decreases-loop-i
-decreases-loop-i l = l.count - l.i

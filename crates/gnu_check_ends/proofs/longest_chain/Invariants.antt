@@ -1,7 +1,6 @@
 -- `gnu_check_ends::longest_chain` meets its contract. The invariant: the larger of the longest so far and of what the rest
--- gives is the answer. The measure is what is left of the symbols. Assumes nothing.
-use Prim.Native.Nat.{ℕ, ◌+◌, ◌-◌, ◌*◌}
-use mathlib.Core.List.{List}
+-- gives is the answer. Assumes nothing.
+use Rattle.std.proofs.Common.{ℕ, ◌+◌, ◌*◌, List}
 use Rattle.endian.specs.declared.kinds.Order.{Order}
 use Rattle.endian.specs.Word.{word_at}
 use Rattle.gnu_table.specs.declared.header.Layout.{Layout}
@@ -12,8 +11,4 @@ abbrev pub value : Order → (table : List ℕ) → Layout → ℕ → ℕ
 value order table layout k = word_at order 4 table (layout.values_at + k * 4)
 
 abbrev pub invariant-loop-i : goal.invariant-loop-i
-invariant-loop-i l =
-    Chaining l.layout.symbol_base (value l.order l.table l.layout) l.count l.longest l.start l.i
-
-abbrev pub decreases-loop-i : goal.decreases-loop-i
-decreases-loop-i l = l.count - l.i
+invariant-loop-i l = Chaining l.layout.symbol_base (value l.order l.table l.layout) l.count l.longest l.start l.i

@@ -1,47 +1,19 @@
--- `gnu_check_values::values::lowest_wrong_value` meets its contract. The invariant: the first from here on is the first of all.
--- The measure is what is left of the symbols. Assumes nothing.
-use Prim.Native.Nat.{ℕ}
-use mathlib.Core.Path.{◌≡◌, refl, sym, ap, ◌∙◌}
-use mathlib.Core.Bool.{not}
-use mathlib.Core.List.{List}
-use Rattle.endian.specs.declared.kinds.Class.{Class}
-use Rattle.endian.specs.declared.kinds.Order.{Order}
+-- `gnu_check_values::values::lowest_wrong_value` meets its contract: `find` answers the first symbol whose value is wrong. How
+-- many symbols there are is not asked of one. Assumes nothing.
+use Rattle.std.proofs.Common.{◌≡◌, not, ap, ◌∙◌, option_map, rules}
+use Rattle.std.proofs.lemmas.Iterator.{serves_from_Range}
 use Rattle.symbol.specs.Table.{symbol_index}
-use Rattle.gnu_table.specs.declared.header.Layout.{Layout}
-use Rattle.gnu_rules.specs.Rules.{gnu_hash_at, value_is_hash}
 use Rattle.gnu_table.specs.Layout.{table_with}
-use Rattle.lookup.proofs.Searching.{searching_start, searching_next, searching_here, searching_end}
+use Rattle.gnu_rules.specs.Rules.{gnu_hash_at, value_is_hash}
+use Rattle.lookup.proofs.Searching.{first_found}
 use Rattle.gnu_check_values.proofs.values.lowest_wrong_value.Goals as goal
 
-pub loop-i-init : goal.loop-i-init
-loop-i-init c = searching_start _ _ _
-
-pub value_is_right-requires : goal.value_is_right-requires
-value_is_right-requires c = c.loop-i.invariant.low
-
--- how many symbols there are is not asked
-tested : (class : Class) (order : Order) (table symbols strings : List ℕ) (layout : Layout) (count i : ℕ)
-    → value_is_hash (table_with class order table symbols strings layout 0) i
-    ≡ value_is_hash (table_with class order table symbols strings layout count) i
-unfolding gnu_hash_at
-tested class order table symbols strings layout count i = refl
-
-pub returns-then-not-value_is_right : goal.returns-then-not-value_is_right
-returns-then-not-value_is_right c =
-    let at-loop = c in
-    let a = c.args in
-    ap symbol_index
-    (searching_here _ _ _ at-loop.loop-i.i at-loop.loop-i.invariant c.loop-i-test.true
-    (ap not (sym (c.value_is_right.ensures ∙ tested a.class a.order a.table.now a.symbols.now a.strings.now a.layout a.count c.loop-i.i)
-    ∙ c.if-not-value_is_right.true)))
-
-pub loop-i-preserved : goal.loop-i-preserved
-loop-i-preserved c =
-    let at-loop = c in
-    let a = c.args in
-    searching_next _ _ _ at-loop.loop-i.i at-loop.loop-i.invariant c.loop-i-test.true
-    (ap not (sym (c.value_is_right.ensures ∙ tested a.class a.order a.table.now a.symbols.now a.strings.now a.layout a.count c.loop-i.i)
-    ∙ c.if-not-value_is_right.false))
-
 pub returns : goal.returns
-returns c = ap symbol_index (searching_end _ _ _ c.loop-i.i c.loop-i.invariant c.loop-i-test.false)
+unfolding gnu_hash_at
+returns c =
+    let a = c.args in
+    let t = table_with a.class a.order a.table.now a.symbols.now a.strings.now a.layout a.count in
+    let mapped : c.map.result ≡ option_map symbol_index c.find.result = search rules in
+    mapped
+    ∙ ap (option_map symbol_index)
+    (first_found _ _ _ _ (λ i. not (value_is_hash t i)) c.find.ensures.ran (λ x b q called. (search rules, search rules)))
