@@ -6,6 +6,7 @@ use Rattle.gnu_table.specs.Places.{table_at}
 use Rattle.gnu.specs.Walk.{walk_pairs}
 use Rattle.gnu.proofs.Finds.{filter_any}
 use Rattle.gnu.proofs.Lookups.{lookup_walks}
+use Rattle.gnu.proofs.Starts.{some_start}
 use Rattle.gnu.proofs.find.lookup_at.Goals as goal
 
 pub returns : goal.returns
@@ -15,8 +16,9 @@ returns c =
     let table = table_at a.class a.order a.parts.table.now a.layout a.count in
     let filters : bloom_filter table a.hash ≡ Ok true =
     sym (rw c.if-not-branch.false at c.in_ok-bloom_filter.ensures ∙ filter_any a.class a.order a.parts.table.now a.layout a.count a.hash) in
-    let v = c.start_of-start.result in
-    let walks = lookup_walks table a.hash _ filters v (sym c.start_of-start.ensures) c.if-start-eq0.false in
+    let v = c.in-Some.start in
+    let start = some_start _ v c.in-Some.ensures in
+    let walks = lookup_walks table a.hash _ filters v start.0 start.1 in
     let size : v + c.smaller.result - v ≡ min (a.count - v) (a.layout.value_count - (v - a.layout.symbol_base)) =
     omega (arith, c.smaller.ensures) in
     ap Ok c.walk.ensures ∙ rw size (sym walks)
