@@ -1,8 +1,8 @@
 -- The word that the library makes of the bytes that were read at a place, in either order. Assumes nothing.
 --     little_joined, big_joined    of the first k + 1 of them; in big they weigh as those of m + 1 bytes do
-use Rattle.std.proofs.Common.{◌≡◌, ◌∙◌, ℕ, zero, suc, ◌+◌, ◌-◌, ◌*◌, ◌^◌, ◌<◌, ◌≤◌, List, get_or, refl, sym, arith}
+use Rattle.std.proofs.Common.{◌≡◌, ◌∙◌, ℕ, zero, suc, ◌+◌, ◌-◌, ◌*◌, ◌^◌, ◌<◌, ◌≤◌, List, get_or, refl, sym, arith, mul-add, mul_comm, mul_assoc}
 use Rattle.std.specs.Int.{byte_worth, sum_through}
-use native.Mathlib.Nat.{mul-add, mul_comm, mul_assoc, pow-succ'}
+use native.Mathlib.Nat.{pow-succ'}
 use Rattle.endian.specs.declared.kinds.Order.TheVariants.{Little, Big}
 use Rattle.endian.specs.Word.{word_at}
 use Rattle.endian.proofs.Word.{word_byte}

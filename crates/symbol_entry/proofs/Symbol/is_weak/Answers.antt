@@ -1,7 +1,5 @@
 -- `symbol_entry::Symbol::is_weak` meets its contract. `bind` says what is compared. Assumes nothing.
-use Prim.Native.Nat.{ℕ}
-use mathlib.Core.Path.{ap}
-use lib.Dec.{eqb}
+use Rattle.std.proofs.Common.{ℕ, ap, eqb}
 use Rattle.symbol_entry.proofs.Symbol.is_weak.Goals as goal
 
 pub returns : goal.returns
