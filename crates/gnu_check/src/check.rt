@@ -41,10 +41,10 @@ fn check_buckets(
             place: bucket,
         });
     }
-    if let Some(symbol) = lowest_wrong_end(class, order, table, symbols, strings, layout, count) {
+    if let Some(end) = lowest_wrong_end(class, order, table, symbols, strings, layout, count) {
         return Err(Fault::Broken {
             rule: 10,
-            place: symbol.0,
+            place: end.0,
         });
     }
     Ok(longest_chain(order, table, layout, count))
@@ -65,22 +65,22 @@ fn check_symbols(
         ≡ from_names (table_with class order table.now symbols.now strings.now layout count) }
 {
     let base = SymbolIndex(layout.symbol_base);
-    if let Some(symbol) = lowest_unreadable(class, order, symbols, strings, base, count) {
+    if let Some(unreadable) = lowest_unreadable(class, order, symbols, strings, base, count) {
         return Err(Fault::Broken {
             rule: 6,
-            place: symbol.0,
+            place: unreadable.0,
         });
     }
-    if let Some(symbol) = lowest_wrong_value(class, order, table, symbols, strings, layout, count) {
+    if let Some(wrong) = lowest_wrong_value(class, order, table, symbols, strings, layout, count) {
         return Err(Fault::Broken {
             rule: 7,
-            place: symbol.0,
+            place: wrong.0,
         });
     }
-    if let Some(symbol) = lowest_unset(class, order, table, symbols, strings, layout, count) {
+    if let Some(unset) = lowest_unset(class, order, table, symbols, strings, layout, count) {
         return Err(Fault::Broken {
             rule: 8,
-            place: symbol.0,
+            place: unset.0,
         });
     }
     check_buckets(class, order, table, symbols, strings, layout, count)

@@ -21,7 +21,7 @@ returns-in-Some-lowest_wrong_end c =
     -- no bucket is wrong
     let nine : lowest (bucket_right t) (from 0 t.bucket_count) ≡ none =
     right_buckets t c.requires.0 c.requires.2 (sym c.in_default.is ∙ c.lowest_wrong_bucket.ensures) in
-    let symbol = c.in-Some-lowest_wrong_end.symbol in
+    let symbol = c.in-Some-lowest_wrong_end.end in
     sym (from_buckets_10 t c.requires.0 c.requires.1 nine symbol.0
     (lowest_at t (ends_run t) symbol.0
     (numbered symbol _ (sym c.in-Some-lowest_wrong_end.is ∙ c.lowest_wrong_end.ensures) ∙ ends_search t c.requires.0)))

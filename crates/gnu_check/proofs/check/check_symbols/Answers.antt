@@ -11,8 +11,8 @@ pub returns-in-Some : goal.returns-in-Some
 returns-in-Some c =
     let a = c.args in
     let t = table_with a.class a.order a.table.now a.symbols.now a.strings.now a.layout a.count in
-    sym (from_names_6 t _ (lowest_at t (name_readable t) c.in-Some.symbol.0
-    (numbered c.in-Some.symbol _ (sym c.in-Some.is ∙ c.lowest_unreadable.ensures))))
+    sym (from_names_6 t _ (lowest_at t (name_readable t) c.in-Some.unreadable.0
+    (numbered c.in-Some.unreadable _ (sym c.in-Some.is ∙ c.lowest_unreadable.ensures))))
 
 pub returns-in-Some-lowest_wrong_value : goal.returns-in-Some-lowest_wrong_value
 returns-in-Some-lowest_wrong_value c =
@@ -22,8 +22,8 @@ returns-in-Some-lowest_wrong_value c =
     let six : lowest (name_readable t) (hashed t) ≡ none =
     lowest_nowhere t (name_readable t) (unnumbered _ (sym c.in_default.is ∙ c.lowest_unreadable.ensures)) in
     let here = c.in-Some-lowest_wrong_value in
-    sym (from_names_7 t six _ (lowest_at t (value_is_hash t) here.symbol.0
-    (numbered here.symbol _ (sym here.is ∙ c.lowest_wrong_value.ensures))))
+    sym (from_names_7 t six _ (lowest_at t (value_is_hash t) here.wrong.0
+    (numbered here.wrong _ (sym here.is ∙ c.lowest_wrong_value.ensures))))
 
 pub returns-in-Some-lowest_unset : goal.returns-in-Some-lowest_unset
 returns-in-Some-lowest_unset c =
@@ -36,8 +36,8 @@ returns-in-Some-lowest_unset c =
     let seven : lowest (value_is_hash t) (hashed t) ≡ none =
     lowest_nowhere t (value_is_hash t) (unnumbered _ (sym c.in_default-lowest_wrong_value.is ∙ c.lowest_wrong_value.ensures)) in
     let here = c.in-Some-lowest_unset in
-    sym (from_names_8 t six seven _ (lowest_at t (bloom_bits_set t) here.symbol.0
-    (numbered here.symbol _ (sym here.is ∙ c.lowest_unset.ensures) ∙ bits_search t c.requires.blooms c.requires.shift)))
+    sym (from_names_8 t six seven _ (lowest_at t (bloom_bits_set t) here.unset.0
+    (numbered here.unset _ (sym here.is ∙ c.lowest_unset.ensures) ∙ bits_search t c.requires.blooms c.requires.shift)))
 
 pub check_buckets-requires : goal.check_buckets-requires
 check_buckets-requires c =
