@@ -1,6 +1,6 @@
 -- The checker's answer, step by step.
 --     judge_header, header_broken, header_kept    the answer by G1 to G5; what a table keeps that breaks none of them
---     number                                      the number of a symbol that a pass answers
+--     numbered, unnumbered                        the number of a symbol that a pass answers
 --     bits_search                                 what the bloom filter says of G8
 --     from_names_6, _7, _8, _kept                 the answer by G6 to G8
 --     wrong_bucket_lem, right_buckets             what the pass over the buckets says of G9
@@ -12,7 +12,9 @@ use Prim.Native.Nat.{ℕ, zero, suc, ◌+◌, ◌-◌, ◌≤◌, ◌<◌}
 use mathlib.Core.Path.{◌≡◌, refl, sym, ap, ◌∙◌}
 use mathlib.Core.Bool.{Bool, true, false, cond, not, ◌&&◌, beq}
 use mathlib.Core.List.{List, [], ◌∷◌, map}
-use mathlib.Core.Option.{Option, some, none, get_or}
+use Rattle.std.specs.Prelude.{Result, Ok, Err, Some, None, option_map}
+use Rattle.std.specs.Prelude as std
+use mathlib.Core.Option.{Option, some, none}
 use native.Mathlib.Nat.{sub-zero}
 use native.Mathlib.Omega.{arith}
 use lib.Dec.{leb, ltb, eqb}
@@ -22,21 +24,19 @@ use Rattle.endian.specs.declared.kinds.Class.{Class}
 use Rattle.endian.specs.declared.kinds.Order.{Order}
 use Rattle.endian.specs.declared.refusals.Refusal.{Refusal}
 use Rattle.endian.specs.Refusals.{limit, too_long, unless_refused}
-use Rattle.symbol.specs.declared.table.SymbolCount.{SymbolCount}
 use Rattle.symbol.specs.declared.table.SymbolIndex.{SymbolIndex}
-use Rattle.symbol.specs.Table.{symbols_in, symbol_count}
+use Rattle.symbol.specs.Table.{symbols_in, symbol_count, symbol_index}
 use Rattle.lookup.specs.Pick.{from, largest}
 use Rattle.lookup.proofs.Picking.{All, all_from, first_of_cong, by-test, and_right, beq_eq}
-use Rattle.gnu_table.specs.declared.header.HeaderAt.{HeaderAt}
 use Rattle.gnu_table.specs.declared.header.Layout.{Layout}
 use Rattle.gnu_table.specs.Table.{GnuTable, hashed, value_of, odd}
 use Rattle.gnu_table.specs.Header.{gnu_fault, layout_of, gnu_header}
 use Rattle.gnu_table.specs.Layout.{table_with}
-use Rattle.gnu_rules.specs.declared.Checked.{Checked}
-use Rattle.gnu_rules.specs.declared.Checked.TheVariants.{Accepted, Broken, Refused}
+use Rattle.gnu_rules.specs.declared.Fault.{Fault}
+use Rattle.gnu_rules.specs.declared.Fault.TheVariants.{Broken, Refused}
 use Rattle.gnu_rules.specs.Rules.{gnu_bucket_of, power_of_two, base_within, some_bucket, shift_within, enough_values, name_readable, value_is_hash, bloom_bits_set, bucket_right, ends_at_last, whole, lowest, findings, longest, verdict, gnu_table_check, gnu_check}
 use Rattle.gnu_rules.proofs.Kept.{power_low, lowest_none}
-use Rattle.lookup.specs.Search.{first_from}
+use Rattle.lookup.specs.Search.{answered, first_from}
 use Rattle.gnu_rules.specs.HeaderRules.{first_broken, broken_header}
 use Rattle.gnu_check_values.specs.Blooms.{hash_passes}
 use Rattle.gnu_check_values.proofs.Filtered.{bits_set}
@@ -49,10 +49,10 @@ use Rattle.gnu_check.proofs.Wrong.{least_wrong_lem}
 
 -- ---- G1 to G5
 
--- the answer after the number of a broken rule, or 0
-abbrev pub after_header : ℕ → Checked → Checked
-after_header zero answer = answer
-after_header (suc n) answer = Broken (suc n) 0
+-- the answer after the number of a broken rule, if one is
+abbrev pub after_header : std.Option ℕ → Result ℕ Fault → Result ℕ Fault
+after_header None answer = answer
+after_header (Some n) answer = Err (Broken n 0)
 
 judge : (g1 g2 g3 g4 g5 : Bool) (most : ℕ) (rest : List (Option ℕ))
     → verdict most 1 (whole g1 ∷ whole g2 ∷ whole g3 ∷ whole g4 ∷ whole g5 ∷ rest)
@@ -65,13 +65,13 @@ judge true true true false g5 most rest = refl
 judge true true true true false most rest = refl
 judge true true true true true most rest = refl
 
--- the five that a first broken rule of 0 says
-all_five : (g1 g2 g3 g4 g5 : Bool) → first_broken g1 g2 g3 g4 g5 ≡ 0
+-- what it says that no rule is broken first
+all_five : (g1 g2 g3 g4 g5 : Bool) → None ≡ first_broken g1 g2 g3 g4 g5
     → (g1 ≡ true) × (g2 ≡ true) × (g3 ≡ true) × (g4 ≡ true)
-all_five false g2 g3 g4 g5 h = absurd (omega arith)
-all_five true false g3 g4 g5 h = absurd (omega arith)
-all_five true true false g4 g5 h = absurd (omega arith)
-all_five true true true false g5 h = absurd (omega arith)
+all_five false g2 g3 g4 g5 h = cc
+all_five true false g3 g4 g5 h = cc
+all_five true true false g4 g5 h = cc
+all_five true true true false g5 h = cc
 all_five true true true true g5 h = (refl, refl, refl, refl)
 
 module _ (class : Class) (order : Order) (table symbols strings : List ℕ) (layout : Layout) (count : ℕ) where
@@ -89,19 +89,18 @@ module _ (class : Class) (order : Order) (table symbols strings : List ℕ) (lay
       lowest (ends_at_last t) (hashed t) ∷
       [])
 
-  pub header_broken : (n : ℕ) → n ≡ broken_header layout count → ¬ (n ≡ 0) → Broken n 0 ≡ gnu_table_check t
-  header_broken zero is broken = absurd (broken refl)
-  header_broken (suc n) is broken = sym (judge_header ∙ ap (λ k. after_header k (from_names t)) (sym is))
+  pub header_broken : (n : ℕ) → Some n ≡ broken_header layout count → Err (Broken n 0) ≡ gnu_table_check t
+  header_broken n is = sym (judge_header ∙ ap (λ o. after_header o (from_names t)) (sym is))
 
-  pub header_kept : (n : ℕ) → n ≡ broken_header layout count → n ≡ 0 → from_names t ≡ gnu_table_check t
-  header_kept n is none_broken = sym (judge_header ∙ ap (λ k. after_header k (from_names t)) (sym is ∙ none_broken))
+  pub header_kept : None ≡ broken_header layout count → from_names t ≡ gnu_table_check t
+  header_kept is = sym (judge_header ∙ ap (λ o. after_header o (from_names t)) (sym is))
 
-pub header_sound : (layout : Layout) (count n : ℕ) → n ≡ broken_header layout count → n ≡ 0 → Sound layout count
+pub header_sound : (layout : Layout) (count : ℕ) → None ≡ broken_header layout count → Sound layout count
 unfolding broken_header
-header_sound layout count n is none_broken =
+header_sound layout count is =
     let base = layout.symbol_base in
     let five = all_five (leb 1 base && leb base count) (power_of_two layout.bloom_count) (leb 1 layout.bucket_count)
-    (leb layout.bloom_shift 31) (leb (count - base) layout.value_count) (sym is ∙ none_broken) in
+    (leb layout.bloom_shift 31) (leb (count - base) layout.value_count) is in
     record {
       base = leb-true base count (and_right (leb 1 base) (leb base count) five.0);
       blooms = power_low layout.bloom_count five.1;
@@ -111,43 +110,49 @@ header_sound layout count n is none_broken =
 
 -- ---- G6 to G8
 
--- the number of a symbol
-abbrev pub number : SymbolIndex → ℕ
-number symbol = symbol.0
+-- the number of a symbol that a pass answers, and that there is none
+pub numbered : (s : SymbolIndex) (o : std.Option ℕ) → Some s ≡ option_map symbol_index o → Some s.0 ≡ o
+numbered s None h = cc
+numbered s (Some i) h = let z : s ≡ symbol_index i = cc in ap (λ x. Some x.0) z
 
-module _ (t : GnuTable) (within : t.base ≤ t.count) where
+pub unnumbered : (o : std.Option ℕ) → None ≡ option_map symbol_index o → None ≡ o
+unnumbered None h = refl
+unnumbered (Some i) h = cc
+
+module _ (t : GnuTable) where
   -- an answer of a pass that looks for a broken rule
-  module _ (kept : ℕ → Bool) (r : ℕ) (answer : r ≡ first_from (λ i. not (kept i)) t.base t.count) where
-    pub lowest_at : ¬ (r ≡ t.count) → lowest kept (hashed t) ≡ some r
-    lowest_at differ = first_some (λ i. not (kept i)) t.base t.count r answer within differ
+  module _ (kept : ℕ → Bool) where
+    pub lowest_at : (r : ℕ) → Some r ≡ first_from (λ i. not (kept i)) t.base t.count → lowest kept (hashed t) ≡ some r
+    lowest_at r answer = first_some (λ i. not (kept i)) t.base t.count r answer
 
-    pub lowest_nowhere : r ≡ t.count → lowest kept (hashed t) ≡ none
-    lowest_nowhere same = first_none (λ i. not (kept i)) t.base t.count r answer within same
+    pub lowest_nowhere : None ≡ first_from (λ i. not (kept i)) t.base t.count → lowest kept (hashed t) ≡ none
+    lowest_nowhere answer = first_none (λ i. not (kept i)) t.base t.count answer
 
   -- where there are bloom words and the shift is no more than 31, what the bloom filter says is G8
-  pub bits_search : 1 ≤ t.bloom_count → t.shift ≤ 31 → (r : ℕ) → r ≡ first_from (λ i. not (hash_passes t i)) t.base t.count
-      → r ≡ first_from (λ i. not (bloom_bits_set t i)) t.base t.count
+  pub bits_search : 1 ≤ t.bloom_count → t.shift ≤ 31
+      → first_from (λ i. not (hash_passes t i)) t.base t.count ≡ first_from (λ i. not (bloom_bits_set t i)) t.base t.count
   unfolding first_from
-  bits_search blooms small r answer =
-      answer ∙ ap (λ o. get_or o t.count)
+  bits_search blooms small =
+      ap answered
       (first_of_cong (λ i. not (hash_passes t i)) (λ i. not (bloom_bits_set t i)) (hashed t)
       (all_from _ t.base (t.count - t.base) (λ i lo hi. ap not (bits_set t blooms small i))))
 
-  pub all_kept : (kept : ℕ → Bool) → lowest kept (hashed t) ≡ none → (i : ℕ) → t.base ≤ i → i < t.count → kept i ≡ true
-  all_kept kept none_broken i lo hi = lowest_none kept t.base (t.count - t.base) none_broken i lo (omega arith)
+  pub all_kept : t.base ≤ t.count → (kept : ℕ → Bool) → lowest kept (hashed t) ≡ none
+      → (i : ℕ) → t.base ≤ i → i < t.count → kept i ≡ true
+  all_kept within kept none_broken i lo hi = lowest_none kept t.base (t.count - t.base) none_broken i lo (omega arith)
 
 module _ (t : GnuTable) where
-  pub from_names_6 : (i : ℕ) → lowest (name_readable t) (hashed t) ≡ some i → from_names t ≡ Broken 6 i
+  pub from_names_6 : (i : ℕ) → lowest (name_readable t) (hashed t) ≡ some i → from_names t ≡ Err (Broken 6 i)
   unfolding from_names verdict
   from_names_6 i six = rw six
 
   module _ (six : lowest (name_readable t) (hashed t) ≡ none) where
-    pub from_names_7 : (i : ℕ) → lowest (value_is_hash t) (hashed t) ≡ some i → from_names t ≡ Broken 7 i
+    pub from_names_7 : (i : ℕ) → lowest (value_is_hash t) (hashed t) ≡ some i → from_names t ≡ Err (Broken 7 i)
     unfolding from_names verdict
     from_names_7 i seven = rw (six, seven)
 
     module _ (seven : lowest (value_is_hash t) (hashed t) ≡ none) where
-      pub from_names_8 : (i : ℕ) → lowest (bloom_bits_set t) (hashed t) ≡ some i → from_names t ≡ Broken 8 i
+      pub from_names_8 : (i : ℕ) → lowest (bloom_bits_set t) (hashed t) ≡ some i → from_names t ≡ Err (Broken 8 i)
       unfolding from_names verdict
       from_names_8 i eight = rw (six, seven, eight)
 
@@ -167,29 +172,30 @@ map_same f g [] h = refl
 map_same f g (x ∷ xs) h = rw (h.0, map_same f g xs h.1)
 
 module _ (t : GnuTable) (some-bucket : 1 ≤ t.bucket_count) where
-  module _ (right : (i : ℕ) → t.base ≤ i → i < t.count → value_is_hash t i ≡ true) (r : ℕ) (answer : r ≡ wrong_bucket t) where
-    as_search : r ≡ first_from (λ b. not (bucket_right t b)) 0 t.bucket_count
-    unfolding first_from wrong_bucket
-    as_search =
-        answer
-        ∙ rw (ne_eqb t.bucket_count 0 (omega arith), least_wrong_lem t some-bucket right, sub-zero t.bucket_count)
+  module _ (right : (i : ℕ) → t.base ≤ i → i < t.count → value_is_hash t i ≡ true) where
+    as_search : wrong_bucket t ≡ answered (lowest (bucket_right t) (from 0 t.bucket_count))
+    unfolding wrong_bucket
+    as_search = rw (ne_eqb t.bucket_count 0 (omega arith)) (least_wrong_lem t some-bucket right)
 
-    pub wrong_bucket_lem : ¬ (r ≡ t.bucket_count) → from_buckets t ≡ Broken 9 r
+    pub wrong_bucket_lem : (r : ℕ) → Some r ≡ wrong_bucket t → from_buckets t ≡ Err (Broken 9 r)
     unfolding from_buckets verdict
-    wrong_bucket_lem differ =
-        let nine : lowest (bucket_right t) (from 0 t.bucket_count) ≡ some r =
-        rw (sub-zero t.bucket_count) at (first_some (λ b. not (bucket_right t b)) 0 t.bucket_count r as_search
-        (omega arith) differ) in
-        rw nine
+    wrong_bucket_lem r answer = by (lowest (bucket_right t) (from 0 t.bucket_count)) refl (answer ∙ as_search)
+      where
+        by : (o : Option ℕ) → lowest (bucket_right t) (from 0 t.bucket_count) ≡ o → Some r ≡ answered o
+            → from_buckets t ≡ Err (Broken 9 r)
+        by none nine h = cc
+        by (some i) nine h = let z : r ≡ i = cc in rw (nine, z)
 
-    pub right_buckets : r ≡ t.bucket_count → lowest (bucket_right t) (from 0 t.bucket_count) ≡ none
-    right_buckets same =
-        rw (sub-zero t.bucket_count) at (first_none (λ b. not (bucket_right t b)) 0 t.bucket_count r as_search
-        (omega arith) same)
+    pub right_buckets : None ≡ wrong_bucket t → lowest (bucket_right t) (from 0 t.bucket_count) ≡ none
+    right_buckets answer = by (lowest (bucket_right t) (from 0 t.bucket_count)) (answer ∙ as_search)
+      where
+        by : (o : Option ℕ) → None ≡ answered o → o ≡ none
+        by none h = refl
+        by (some i) h = cc
 
-  pub ends_search : (r : ℕ) → r ≡ wrong_end t → r ≡ first_from (λ i. not (ends_run t i)) t.base t.count
+  pub ends_search : wrong_end t ≡ first_from (λ i. not (ends_run t i)) t.base t.count
   unfolding wrong_end
-  ends_search r answer = answer ∙ rw (ne_eqb t.bucket_count 0 (omega arith))
+  ends_search = rw (ne_eqb t.bucket_count 0 (omega arith))
 
   module _ (within : t.base ≤ t.count) (nine : lowest (bucket_right t) (from 0 t.bucket_count) ≡ none) where
     kept : (b : ℕ) → b < t.bucket_count → bucket_right t b ≡ true
@@ -203,7 +209,7 @@ module _ (t : GnuTable) (some-bucket : 1 ≤ t.bucket_count) where
         first_of_cong (λ i. not (ends_run t i)) (λ i. not (ends_at_last t i)) (hashed t)
         (all_from _ t.base (t.count - t.base) (λ i lo hi. ap not (ends_same i lo (omega arith))))
 
-    pub from_buckets_10 : (i : ℕ) → lowest (ends_run t) (hashed t) ≡ some i → from_buckets t ≡ Broken 10 i
+    pub from_buckets_10 : (i : ℕ) → lowest (ends_run t) (hashed t) ≡ some i → from_buckets t ≡ Err (Broken 10 i)
     unfolding from_buckets verdict
     from_buckets_10 i ten = rw (nine, sym lowest_same ∙ ten)
 
@@ -234,25 +240,26 @@ module _ (t : GnuTable) (some-bucket : 1 ≤ t.bucket_count) where
           (all_from _ t.base (t.count - t.base)
           (λ i lo hi. ap (λ start. suc i - start) (starts_same (i - t.base) (omega arith)))))
 
-      pub from_buckets_accepted : from_buckets t ≡ Accepted (longest_chain t.base t.value t.count)
+      pub from_buckets_accepted : from_buckets t ≡ Ok (longest_chain t.base t.value t.count)
       unfolding from_buckets verdict
       from_buckets_accepted = rw (nine, sym lowest_same ∙ ten, chain_is, longest_run_lem t some-bucket kept)
 
 -- ---- the parts
 
-abbrev pub check_from : (strings_long : Bool) → SymbolCount → HeaderAt → (Layout → ℕ → Checked) → Checked
-check_from true counted header look = Refused too_long
-check_from false (SymbolCount.Refused r) header look = Refused too_long
-check_from false (SymbolCount.Symbols n) (HeaderAt.Refused r) look = Refused r
-check_from false (SymbolCount.Symbols n) (HeaderAt.At layout) look = look layout n
+abbrev pub check_from : (strings_long : Bool) → Result ℕ Refusal → Result Layout Refusal → (Layout → ℕ → Result ℕ Fault)
+    → Result ℕ Fault
+check_from true counted header look = Err (Refused too_long)
+check_from false (Err r) header look = Err (Refused r)
+check_from false (Ok n) (Err r) look = Err (Refused r)
+check_from false (Ok n) (Ok layout) look = look layout n
 
 -- the parts may be tested in any order, for each is refused alike
 any_order : (table_long symbols_long strings_long : Bool) (o : Option Refusal) (n : ℕ) (layout : Layout)
-    (look : Layout → ℕ → Checked)
-    → cond (cond table_long true (cond symbols_long true (cond strings_long true false))) (Refused too_long)
-    (unless_refused Checked.Refused o (look layout n))
-    ≡ check_from strings_long (cond symbols_long (SymbolCount.Refused too_long) (SymbolCount.Symbols n))
-    (cond table_long (HeaderAt.Refused too_long) (unless_refused HeaderAt.Refused o (HeaderAt.At layout))) look
+    (look : Layout → ℕ → Result ℕ Fault)
+    → cond (cond table_long true (cond symbols_long true (cond strings_long true false))) (Err (Refused too_long))
+    (unless_refused (λ r. Err (Refused r)) o (look layout n))
+    ≡ check_from strings_long (cond symbols_long (Err too_long) (Ok n))
+    (cond table_long (Err too_long) (unless_refused Err o (Ok layout))) look
 any_order true true true o n layout look = refl
 any_order true true false o n layout look = refl
 any_order true false true o n layout look = refl
@@ -275,10 +282,10 @@ check_from_lem class order table symbols strings =
 
 -- the same, told what was read
 module _ (class : Class) (order : Order) (table symbols strings : List ℕ) where
-  abbrev look : Layout → ℕ → Checked
+  abbrev look : Layout → ℕ → Result ℕ Fault
   look layout count = gnu_table_check (table_with class order table symbols strings layout count)
 
-  pub check_told : (long : Bool) (counted : SymbolCount) (head : HeaderAt)
+  pub check_told : (long : Bool) (counted : Result ℕ Refusal) (head : Result Layout Refusal)
       → ltb limit (length strings) ≡ long → counted ≡ symbol_count class symbols → head ≡ gnu_header class order table
       → check_from long counted head look ≡ gnu_check class order table symbols strings
   check_told long counted head is-long is-counted is-head =

@@ -6,7 +6,10 @@
 use mathlib.Core.Path.{◌≡◌, refl, sym, ap, ◌∙◌, subst}
 use mathlib.Core.Bool.{Bool, true, false, not, cond, ◌&&◌, true≢false, false≢true}
 use mathlib.Core.Logic.{◌⊎◌, inl, inr, ⊎_elim}
-use mathlib.Core.Option.{Option, some, none}
+use Rattle.std.specs.Prelude.{Option, Some, None}
+use Rattle.std.proofs.Math.Option as Math
+use native.Mathlib.Nat.{sub-zero}
+use Rattle.lookup.specs.Search.{answered, first_from}
 use Prim.Native.Nat.{ℕ, zero, suc, ◌+◌, ◌-◌, ◌≤◌, ◌<◌}
 use native.Mathlib.Omega.{arith}
 use native.Mathlib.Nat.{le_refl, mod-lt, eq-or-lt_of_le}
@@ -21,7 +24,7 @@ use Rattle.gnu_check.proofs.Ruled.{stray_plain}
 use Rattle.gnu_check.proofs.Starts.{Right, plain_stray, right_kept, kept_right}
 
 -- one number, where a test passes
-one : (b : Bool) (x : ℕ) → Least (λ c. (b ≡ true) × (x ≡ c)) (cond b (some x) none)
+one : (b : Bool) (x : ℕ) → Least (λ c. (b ≡ true) × (x ≡ c)) (cond b (Some x) None)
 one true x = ((refl, refl), λ c less h. absurd (omega (arith, h.1)))
 one false x = λ c h. false≢true h.0
 
@@ -40,7 +43,7 @@ module _ (t : GnuTable) where
       (λ more. inr (h.0, more, omega arith, h.3, h.4)) (eq-or-lt_of_le h.1))
       (least_misplaced t i (suc k))
       (lesser_least (λ c. (misplaced t i ≡ true) × (gnu_bucket_of t i ≡ c)) (Amiss (suc i) (suc i + k))
-      (cond (misplaced t i) (some (gnu_bucket_of t i)) none) (least_misplaced t (suc i) k)
+      (cond (misplaced t i) (Some (gnu_bucket_of t i)) None) (least_misplaced t (suc i) k)
       (one (misplaced t i) (gnu_bucket_of t i)) (least_misplaced_lem (suc i) k))
 
   -- a bucket breaks G9 exactly if it is stray or has a misplaced symbol
@@ -61,9 +64,9 @@ module _ (t : GnuTable) where
       amiss : ℕ → Bool
       amiss j = in_bucket t c j && misplaced t j
 
-      go : plain_stray t c ≡ false → (o : Option ℕ) → first_of amiss (hashed t) ≡ o
+      go : plain_stray t c ≡ false → (o : Math.Option ℕ) → first_of amiss (hashed t) ≡ o
           → (plain_stray t c ≡ true) ⊎ Amiss t.base (t.base + (t.count - t.base)) c
-      go s none e =
+      go s Math.none e =
           let none-amiss = from_all (λ j. amiss j ≡ false) t.base (t.count - t.base)
           (none_first_of amiss (hashed t) e) in
           let right : Right t c =
@@ -74,7 +77,7 @@ module _ (t : GnuTable) where
                 sym (ap t.bucket mine) ∙ eqb-true _ _ (not_none _ placed);
           } in
           absurd (true≢false (sym (right_kept t c right) ∙ h))
-      go s (some j) e =
+      go s (Math.some j) e =
           let l = first_of_lowest amiss t.base (t.count - t.base) j e in
           inr (
             j,
@@ -85,11 +88,11 @@ module _ (t : GnuTable) where
           )
 
   abbrev plain_wrong : Option ℕ
-  plain_wrong = lesser (first_of (plain_stray t) (from 0 t.bucket_count)) (least_misplaced t t.base (t.count - t.base))
+  plain_wrong = lesser (answered (first_of (plain_stray t) (from 0 t.bucket_count))) (least_misplaced t t.base (t.count - t.base))
 
-  plain_wrong_lem : 1 ≤ t.bucket_count → plain_wrong ≡ lowest (bucket_right t) (from 0 t.bucket_count)
+  plain_wrong_lem : 1 ≤ t.bucket_count → plain_wrong ≡ answered (lowest (bucket_right t) (from 0 t.bucket_count))
   plain_wrong_lem some-bucket =
-      least_unique Breaks plain_wrong (lowest (bucket_right t) (from 0 t.bucket_count))
+      least_unique Breaks plain_wrong (answered (lowest (bucket_right t) (from 0 t.bucket_count)))
       (least_map (λ c. ((c < t.bucket_count) × (plain_stray t c ≡ true)) ⊎ Amiss t.base
       (t.base + (t.count - t.base)) c) Breaks
       (λ c. ⊎_elim (λ h. (h.0, ap not (broken c (inl h.1))))
@@ -97,7 +100,7 @@ module _ (t : GnuTable) where
       (λ c h. ⊎_elim (λ s. inl (h.0, s)) inr (why c (not-true (bucket_right t c) h.1)))
       plain_wrong
       (lesser_least (λ c. (c < t.bucket_count) × (plain_stray t c ≡ true)) (Amiss t.base (t.base + (t.count - t.base)))
-      (first_of (plain_stray t) (from 0 t.bucket_count)) (least_misplaced t t.base (t.count - t.base))
+      (answered (first_of (plain_stray t) (from 0 t.bucket_count))) (least_misplaced t t.base (t.count - t.base))
       (first_of_least (plain_stray t) t.bucket_count) (least_misplaced_lem t.base (t.count - t.base))))
       (first_of_least (λ b. not (bucket_right t b)) t.bucket_count)
     where
@@ -105,9 +108,11 @@ module _ (t : GnuTable) where
       Breaks c = (c < t.bucket_count) × (not (bucket_right t c) ≡ true)
 
   pub least_wrong_lem : 1 ≤ t.bucket_count → ((i : ℕ) → t.base ≤ i → i < t.count → value_is_hash t i ≡ true)
-      → least_wrong t ≡ lowest (bucket_right t) (from 0 t.bucket_count)
+      → least_wrong t ≡ answered (lowest (bucket_right t) (from 0 t.bucket_count))
+  unfolding first_from
   least_wrong_lem some-bucket right =
-      ap (λ o. lesser o (least_misplaced t t.base (t.count - t.base)))
+      rw (sub-zero t.bucket_count)
+      (ap (λ o. lesser (answered o) (least_misplaced t t.base (t.count - t.base)))
       (first_of_cong (stray t) (plain_stray t) (from 0 t.bucket_count)
       (all_from _ 0 t.bucket_count (λ b lo hi. stray_plain t right b)))
-      ∙ plain_wrong_lem some-bucket
+      ∙ plain_wrong_lem some-bucket)

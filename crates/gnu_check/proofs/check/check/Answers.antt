@@ -1,41 +1,34 @@
--- `gnu_check::check::check` meets its contract. Each arm is told what was read of the parts. Assumes nothing.
-use mathlib.Core.Path.{refl, sym, ◌∙◌}
-use mathlib.Core.Bool.{true, false}
+-- `gnu_check::check::check` meets its contract. Each answer is told what was read of the parts. Assumes nothing.
+use Rattle.std.proofs.Common.{◌≡◌, true, false, Err, refl, ◌∙◌, rules}
 use borrow.Author.Tests.{lt-ltb, le-ltb}
+use Rattle.gnu_rules.specs.declared.Fault.TheVariants.{Refused}
 use Rattle.gnu_check.proofs.Judged.{check_told}
 use Rattle.gnu_check.proofs.check.check.Goals as goal
 
 pub returns-then-strings-gt-LIMIT : goal.returns-then-strings-gt-LIMIT
 returns-then-strings-gt-LIMIT c =
     let a = c.args in
-    check_told a.class a.order a.table.now a.symbols.now
-    a.strings.now true _ _ (lt-ltb _ _ c.if-strings-gt-LIMIT.true) refl refl
+    check_told a.class a.order a.table.now a.symbols.now a.strings.now true _ _ (lt-ltb _ _ c.if-strings-gt-LIMIT.true) refl refl
 
-pub returns-in_default : goal.returns-in_default
-returns-in_default c =
-    let counted = c in
+pub returns-in_err-count : goal.returns-in_err-count
+returns-in_err-count c =
     let a = c.args in
-    check_told a.class a.order a.table.now a.symbols.now
-    a.strings.now false _ _ (le-ltb _ _ counted.if-strings-gt-LIMIT.false)
-    (sym c.in_default.is ∙ counted.symbol_count-counted.ensures) refl
+    let handed : c.from_residual.result ≡ Err (Refused c.in_err-count.field-0.0) = search rules in
+    handed
+    ∙ check_told a.class a.order a.table.now a.symbols.now a.strings.now false _ _ (le-ltb _ _ c.if-strings-gt-LIMIT.false)
+    c.in_err-count.ensures refl
 
-pub returns-in-At : goal.returns-in-At
-returns-in-At c =
-    let called = c in
-    let counted = called in
+pub returns-in_err-layout : goal.returns-in_err-layout
+returns-in_err-layout c =
+    let a = c.args in
+    let handed : c.from_residual-in_err-layout.result ≡ Err (Refused c.in_err-layout.field-0.0) = search rules in
+    handed
+    ∙ check_told a.class a.order a.table.now a.symbols.now a.strings.now false _ _ (le-ltb _ _ c.if-strings-gt-LIMIT.false)
+    c.in_ok-count.ensures c.in_err-layout.ensures
+
+pub returns : goal.returns
+returns c =
     let a = c.args in
     c.check_table.ensures
-    ∙ check_told a.class a.order a.table.now a.symbols.now
-    a.strings.now false _ _ (le-ltb _ _ counted.if-strings-gt-LIMIT.false)
-    (sym called.in-Symbols.is ∙ counted.symbol_count-counted.ensures)
-    (sym c.in-At.is ∙ called.header.ensures)
-
-pub returns-in-Refused : goal.returns-in-Refused
-returns-in-Refused c =
-    let called = c in
-    let counted = called in
-    let a = c.args in
-    check_told a.class a.order a.table.now a.symbols.now
-    a.strings.now false _ _ (le-ltb _ _ counted.if-strings-gt-LIMIT.false)
-    (sym called.in-Symbols.is ∙ counted.symbol_count-counted.ensures)
-    (sym c.in-Refused.is ∙ called.header.ensures)
+    ∙ check_told a.class a.order a.table.now a.symbols.now a.strings.now false _ _ (le-ltb _ _ c.if-strings-gt-LIMIT.false)
+    c.in_ok-count.ensures c.in_ok-layout.ensures
