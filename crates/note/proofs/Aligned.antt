@@ -4,9 +4,7 @@
 --     aligned_least       no other is before it
 --     aligned_next        it is what the library's `next_multiple_of` is
 -- Assumes nothing.
-use Prim.Native.Nat.{ℕ, ◌%◌, ◌≤◌}
-use mathlib.Core.Path.{◌≡◌}
-use native.Mathlib.Omega.{arith}
+use Rattle.std.proofs.Common.{ℕ, ◌%◌, ◌≤◌, ◌≡◌, arith}
 use Rattle.std.specs.Int.{next_multiple_of}
 use Rattle.note.specs.Notes.{align_size, aligned}
 use Rattle.note.specs.declared.reader.Align.{Align}

@@ -2,9 +2,7 @@
 --     step_long    bytes that are too long
 --     step_end     the end: a reader at or past the end of the bytes
 -- Assumes nothing.
-use Rattle.std.proofs.Common.{ℕ, ◌<◌, ◌≤◌, ◌≡◌, List, length}
-use Rattle.std.specs.Prelude.{Ok, Err, None}
-use borrow.Author.Tests.{lt-ltb, le-ltb, le-leb}
+use Rattle.std.proofs.Common.{ℕ, ◌<◌, ◌≤◌, ◌≡◌, List, length, Ok, Err, None, lt-ltb, le-ltb, le-leb}
 use Rattle.endian.specs.Refusals.{limit, too_long}
 use Rattle.note.specs.Notes.{note_step}
 use Rattle.note.specs.declared.reader.NoteReader.{NoteReader}

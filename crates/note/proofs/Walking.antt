@@ -7,21 +7,13 @@
 --     stepping_only               and no other
 --     section_stepping            stepping from the start of a section gives the section's list
 -- Assumes nothing.
-use Prim.Native.Nat.{ℕ, zero, suc, ◌+◌, ◌-◌, ◌<◌, ◌≤◌}
-use mathlib.Core.Path.{◌≡◌, refl, sym, ap, ◌∙◌, subst}
-use mathlib.Core.Bool.{Bool, true, false, cond}
-use mathlib.Core.List.{List}
-use native.Mathlib.Omega.{arith}
-use lib.Dec.{ltb, leb}
-use lib.ListN.{length}
-use borrow.Author.Tests.{leb-false, ltb-true}
+use Rattle.std.proofs.Common.{ℕ, zero, suc, ◌+◌, ◌-◌, ◌<◌, ◌≤◌, ◌≡◌, refl, sym, ap, ◌∙◌, subst, Bool, true, false, cond, List, arith, ltb, leb, length, leb-false, ltb-true, Result, Ok, Err, Option, Some, None}
 use Rattle.endian.specs.declared.kinds.Order.{Order}
 use Rattle.endian.specs.declared.refusals.Refusal.{Refusal}
 use Rattle.endian.specs.Refusals.{limit, too_long, note_short, bad_note_name, bad_note_descriptor}
 use Rattle.note.specs.Notes.{reader_for, note_step, after_found, reader_after, to, name_end, descriptor_end, note_of}
 use Rattle.note.specs.Walk.{NoteList, stopped, none, onto, after_step, notes_within, notes_from, notes_of, section_notes, Stepping, ends, stops, goes}
 use Rattle.note.specs.declared.reader.NoteReader.{NoteReader}
-use Rattle.std.specs.Prelude.{Result, Ok, Err, Option, Some, None}
 use Rattle.note.specs.declared.reader.Note.{Note}
 use Rattle.note.proofs.Aligned.{aligned-le}
 use Rattle.note.proofs.Steps.{step_long, step_end}

@@ -1,8 +1,7 @@
 -- The length without the zeros at the end, by the last byte that is not 0. Assumes nothing.
 --     trimmed_at_last    it ends with that byte
 --     trimmed_zeros      it is 0 where all bytes are 0
-use Rattle.std.proofs.Common.{ℕ, ◌+◌, ◌-◌, ◌<◌, ◌≤◌, ◌≡◌, refl, Bool, true, false, List, length, get_or, leb, arith}
-use borrow.Author.Tests.{leb-true, leb-false}
+use Rattle.std.proofs.Common.{ℕ, ◌+◌, ◌-◌, ◌<◌, ◌≤◌, ◌≡◌, refl, Bool, true, false, List, length, get_or, leb, arith, leb-true, leb-false}
 use Rattle.note_name.specs.Trim.{trimmed_length}
 use Rattle.note_name.proofs.Longest.{trimmed_longest}
 

@@ -2,9 +2,7 @@
 --     step_end         a reader at or past the end of the bytes finds the end
 --     refused_stays    a refused reader is at its end, and stays there
 -- Assumes nothing.
-use Rattle.std.proofs.Common.{ℕ, ◌≤◌, ◌≡◌, List, length, ap, arith}
-use Rattle.std.specs.Prelude.{Ok, None}
-use borrow.Author.Tests.{le-ltb, le-leb}
+use Rattle.std.proofs.Common.{ℕ, ◌≤◌, ◌≡◌, List, length, ap, arith, Ok, None, le-ltb, le-leb}
 use Rattle.endian.specs.Refusals.{limit}
 use Rattle.property_reader.specs.After.{after_found, property_reader_after}
 use Rattle.property_reader.specs.Reader.{property_step, property_reader_at}

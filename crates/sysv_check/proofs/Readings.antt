@@ -1,10 +1,7 @@
 -- A test of all numbers of a run, by the search for the first that fails it.
 --     every_searched, every_missed    what an answer r of the search says of the test: none fails, or one does
 -- Assumes nothing.
-use Prim.Native.Nat.{ℕ, ◌-◌, ◌≤◌}
-use mathlib.Core.Path.{◌≡◌, sym, ap, ◌∙◌}
-use mathlib.Core.Bool.{Bool, true, false, not}
-use mathlib.Core.List.{List}
+use Rattle.std.proofs.Common.{ℕ, ◌-◌, ◌≤◌, ◌≡◌, sym, ap, ◌∙◌, Bool, true, false, not, List}
 use mathlib.Core.Option.{some-ne-none}
 use Rattle.lookup.specs.Pick.{from}
 use Rattle.lookup.specs.Search.{first_from}

@@ -1,6 +1,5 @@
 -- `sysv_check::table::check` meets its contract. Each arm is told what `symbol_count` and `header_of` answered. Assumes nothing.
-use Rattle.std.proofs.Common.{sym, ◌∙◌}
-use borrow.Author.Tests.{lt-ltb, le-ltb}
+use Rattle.std.proofs.Common.{sym, ◌∙◌, lt-ltb, le-ltb}
 use Rattle.sysv_header.proofs.Headers.{header_read}
 use Rattle.sysv_check.proofs.Passes.{check_from_lem, count_read}
 use Rattle.sysv_check.proofs.table.check.Goals as goal

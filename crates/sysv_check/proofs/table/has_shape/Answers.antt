@@ -1,5 +1,6 @@
 -- `sysv_check::table::has_shape` meets its contract. Each return is a case of `t1`. Assumes nothing.
-use borrow.Author.Tests.{lt-leb, le-leb, eq-eqb, ne_eqb}
+use Rattle.std.proofs.Common.{le-leb, eq-eqb, ne_eqb}
+use borrow.Author.Tests.{lt-leb}
 use Rattle.sysv_check.proofs.table.has_shape.Goals as goal
 
 pub returns-then-low-lt1 : goal.returns-then-low-lt1
