@@ -38,8 +38,8 @@ pub struct NoteReader {
     pub at: usize,
 }
 
-// A note's type, and where its name and its descriptor stand in the lent bytes: namesz bytes at
-// name, and descsz bytes at descriptor.
+// A note's type, which is any number that the file has, and where its name and its descriptor stand in
+// the lent bytes: namesz bytes at name, and descsz bytes at descriptor.
 #[derive(Clone, Copy, Debug, PartialEq, Eq)]
 pub struct Note {
     pub kind: u32,

@@ -21,7 +21,7 @@ pub struct PropertyReader {
     pub at: usize,
 }
 
-// A property's type, and where its data stands in the lent descriptor: size bytes at start.
+// A property's type, which is any number that the file has, and where its data stands in the lent descriptor: size bytes at start.
 #[derive(Clone, Copy, Debug, PartialEq, Eq)]
 pub struct Property {
     pub kind: u32,
