@@ -3,9 +3,16 @@
 -- each number is met at most once, and n - low steps over n - low numbers meet each. Back: each number is met once, so the
 -- steps are n - low.
 -- Assumes nothing.
-use Rattle.std.proofs.Common.{◌≡◌, refl, sym, ap, ◌∙◌, subst, Bool, true, ◌&&◌, true≢false, List, [], ◌∷◌, ◌++◌, ℕ, zero, suc, ◌+◌, ◌-◌, ◌≤◌, ◌<◌, arith, mod-lt, leb, ltb, eqb, length, length-append, leb-true, ltb-true, eqb-true, eq-eqb, ne_eqb, le-leb, lt-ltb}
-use mathlib.Core.Option.{Option, some, none, none-ne-some}
-use borrow.Author.Tests.{eqb-false}
+use mathlib.Core.Path.{◌≡◌, refl, sym, ap, ◌∙◌, subst}
+use mathlib.Core.Bool.{Bool, true, ◌&&◌, true≢false}
+use mathlib.Core.List.{List, [], ◌∷◌, ◌++◌}
+use Rattle.std.specs.Prelude.{Option, Some, None}
+use Prim.Native.Nat.{ℕ, zero, suc, ◌+◌, ◌-◌, ◌≤◌, ◌<◌}
+use native.Mathlib.Omega.{arith}
+use native.Mathlib.Nat.{mod-lt}
+use lib.Dec.{leb, ltb, eqb}
+use lib.ListN.{length, length-append}
+use borrow.Author.Tests.{leb-true, ltb-true, eqb-true, eqb-false, eq-eqb, ne_eqb, le-leb, lt-ltb}
 use Rattle.lookup.specs.Pick.{from}
 use Rattle.lookup.proofs.Picking.{All, all_map, all_from, from_all, by-test, and_left, and_right, test_ext}
 use Rattle.sysv.specs.Table.{SysvTable, numbers}
@@ -18,12 +25,15 @@ use Rattle.sysv_check.proofs.Counting.{sum, sum_single, sum-times, sum_ones, all
 use Rattle.sysv_check.proofs.Chained.{chain_range, no_repeat, chain_whole}
 use Rattle.sysv_check.proofs.Ruled.{Shape, shape, placed, right_both}
 
-some_same : (a b : ℕ) → some a ≡ some b → a ≡ b
+none_some : (r : ℕ) → ¬ (◌≡◌ {A = Option ℕ} None (Some r))
+none_some r h = cc
+
+some_same : (a b : ℕ) → Some a ≡ Some b → a ≡ b
 some_same a b h = cc
 
-spent_some : (o : Option ℕ) → spent o ≡ true → o ≡ some 0
-spent_some none h = cc
-spent_some (some k) h = ap (λ x. some x) (eqb-true k 0 h)
+spent_some : (o : Option ℕ) → spent o ≡ true → o ≡ Some 0
+spent_some None h = cc
+spent_some (Some k) h = ap (λ x. Some x) (eqb-true k 0 h)
 
 module _ (t : SysvTable) where
   -- the numbers on the chains of these buckets, one after the other
@@ -58,7 +68,7 @@ module _ (t : SysvTable) (low : ℕ) where
 
   record FollowedAll (bs : List ℕ) (o : Option ℕ) (r : ℕ) : Type 0 where
     k : ℕ
-    given : o ≡ some k
+    given : o ≡ Some k
     wholes : All Whole bs
     steps : length (together t bs) + r ≡ k
 
@@ -71,13 +81,13 @@ module _ (t : SysvTable) (low : ℕ) where
       )
 
   module _ (s : Shape t low) where
-    follow_path : (b k i r : ℕ) → follow t.chain (may b) k i ≡ some r → Followed b k i r
+    follow_path : (b k i r : ℕ) → follow t.chain (may b) k i ≡ Some r → Followed b k i r
     unfolding follow
     follow_path b zero i r h =
         by-test (eqb i 0)
         (λ e. let z = some_same 0 r (rw e at h) in
         record { list = []; path = eqb-true i 0 e; goods = tt; steps = omega arith })
-        (λ e. absurd (none-ne-some r (rw e at h)))
+        (λ e. absurd (none_some r (rw e at h)))
     follow_path b (suc k) i r h =
         by-test (eqb i 0)
         (λ e. let z = some_same (suc k) r (rw e at h) in
@@ -93,25 +103,25 @@ module _ (t : SysvTable) (low : ℕ) where
           goods = (g, f.goods);
           steps = omega (arith, f.steps);
         })
-        (λ g. absurd (none-ne-some r (rw (e, g) at h))))
+        (λ g. absurd (none_some r (rw (e, g) at h))))
 
     path_follow : (b k i r : ℕ) (xs : List ℕ) → Chain t.chain_count t.chain i xs → All (λ x. may b x ≡ true) xs
-        → length xs + r ≡ k → follow t.chain (may b) k i ≡ some r
+        → length xs + r ≡ k → follow t.chain (may b) k i ≡ Some r
     unfolding follow
-    path_follow b zero i r [] p g steps = let z : 0 ≡ r = omega arith in rw (eq-eqb i 0 p) (ap (λ x. some x) z)
-    path_follow b (suc k) i r [] p g steps = let z : suc k ≡ r = omega arith in rw (eq-eqb i 0 p) (ap (λ x. some x) z)
+    path_follow b zero i r [] p g steps = let z : 0 ≡ r = omega arith in rw (eq-eqb i 0 p) (ap (λ x. Some x) z)
+    path_follow b (suc k) i r [] p g steps = let z : suc k ≡ r = omega arith in rw (eq-eqb i 0 p) (ap (λ x. Some x) z)
     path_follow b zero i r (x ∷ xs) p g steps = absurd (omega arith)
     path_follow b (suc k) i r (x ∷ xs) p g steps =
         let ne : ¬ (i ≡ 0) = λ z. omega (arith, p.1) in
         let here : may b i ≡ true = subst (λ y. may b y ≡ true) p.0 g.0 in
         rw (ne_eqb i 0 ne, here) (path_follow b k (t.chain i) r xs p.3 g.1 (omega arith))
 
-    onward_some : (b : ℕ) (o : Option ℕ) (r : ℕ) → onward t.chain t.bucket may b o ≡ some r
-        → (k : ℕ) × (o ≡ some k) × (follow t.chain (may b) k (t.bucket b) ≡ some r)
-    onward_some b none r h = absurd (none-ne-some r h)
-    onward_some b (some k) r h = (k, refl, h)
+    onward_some : (b : ℕ) (o : Option ℕ) (r : ℕ) → onward t.chain t.bucket may b o ≡ Some r
+        → (k : ℕ) × (o ≡ Some k) × (follow t.chain (may b) k (t.bucket b) ≡ Some r)
+    onward_some b None r h = cc
+    onward_some b (Some k) r h = (k, refl, h)
 
-    all_follow : (bs : List ℕ) (o : Option ℕ) (r : ℕ) → follow_all t.chain t.bucket may bs o ≡ some r
+    all_follow : (bs : List ℕ) (o : Option ℕ) (r : ℕ) → follow_all t.chain t.bucket may bs o ≡ Some r
         → FollowedAll bs o r
     unfolding follow_all
     all_follow [] o r h = record { k = r; given = h; wholes = tt; steps = omega arith }
@@ -130,9 +140,9 @@ module _ (t : SysvTable) (low : ℕ) where
         }
 
     follow_all_lem : (bs : List ℕ) (k r : ℕ) → All Whole bs → length (together t bs) + r ≡ k
-        → follow_all t.chain t.bucket may bs (some k) ≡ some r
+        → follow_all t.chain t.bucket may bs (Some k) ≡ Some r
     unfolding follow_all
-    follow_all_lem [] k r w steps = let z : k ≡ r = omega arith in ap (λ x. some x) z
+    follow_all_lem [] k r w steps = let z : k ≡ r = omega arith in ap (λ x. Some x) z
     follow_all_lem (b ∷ bs) k r w steps =
         let long = length-append (numbers t b) (together t bs) in
         rw (path_follow b k (t.bucket b) (length (together t bs) + r) (numbers t b) w.0.path w.0.goods (omega arith))
@@ -202,8 +212,8 @@ module _ (t : SysvTable) (low : ℕ) where
 
     there : all_spent t.chain t.bucket may t.bucket_count (t.count - low) ≡ true → t3 t low ≡ true
     there h =
-        let f = all_follow (from 0 t.bucket_count) (some (t.count - low)) 0
-        (spent_some (follow_all t.chain t.bucket may (from 0 t.bucket_count) (some (t.count - low))) h) in
+        let f = all_follow (from 0 t.bucket_count) (Some (t.count - low)) 0
+        (spent_some (follow_all t.chain t.bucket may (from 0 t.bucket_count) (Some (t.count - low))) h) in
         let k-is = some_same (t.count - low) f.k f.given in
         t3_holds f.wholes (omega (arith, f.steps))
 

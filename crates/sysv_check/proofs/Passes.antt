@@ -3,27 +3,35 @@
 --     check_1, _2, _3, _all         the first rule that is broken, or none
 --     check_from, check_from_lem    the checker's answer by the counted symbols and the header
 --     count_read                    symbols that were counted
+--     number_there                  whether a pass answers a symbol
 -- Assumes nothing.
-use Rattle.std.proofs.Common.{ℕ, ◌+◌, ◌-◌, ◌*◌, ◌%◌, ◌≤◌, ◌≡◌, refl, sym, ◌∙◌, Bool, true, false, cond, not, ◌&&◌, List, leb, ltb, eqb, length, leb-true}
+use Prim.Native.Nat.{ℕ, ◌+◌, ◌-◌, ◌*◌, ◌%◌, ◌≤◌}
+use mathlib.Core.Path.{◌≡◌, refl, sym, ◌∙◌}
+use mathlib.Core.Bool.{Bool, true, false, cond, not, ◌&&◌}
+use mathlib.Core.List.{List}
 use mathlib.Core.Option.{Option, some, none}
+use lib.Dec.{leb, ltb, eqb}
+use lib.ListN.{length}
+use borrow.Author.Tests.{leb-true}
 use Rattle.endian.specs.declared.kinds.Class.{Class}
 use Rattle.endian.specs.declared.kinds.Order.{Order}
 use Rattle.endian.specs.declared.refusals.Refusal.{Refusal}
 use Rattle.endian.specs.Refusals.{limit, too_long, unless_refused}
 use Rattle.endian.specs.Word.{word_at}
-use Rattle.symbol.specs.declared.table.SymbolCount.{SymbolCount}
-use Rattle.symbol.specs.Table.{symbols_in, symbol_count}
+use Rattle.std.specs.Prelude.{Result, Ok, Err, Some, None, is_some, option_map}
+use Rattle.std.specs.Prelude as std
+use Rattle.symbol.specs.Table.{symbols_in, symbol_count, symbol_index}
 use Rattle.lookup.specs.Search.{first_from}
 use Rattle.lookup.specs.Wanted.{name_of}
 use Rattle.lookup.proofs.Picking.{and_left, and_right}
 use Rattle.readable_names.specs.Readable.{readable_in}
 use Rattle.sysv_header.specs.declared.header.Header.{Header}
-use Rattle.sysv_header.specs.declared.header.HeaderAt.{HeaderAt}
 use Rattle.sysv_header.specs.Header.{sysv_fault}
 use Rattle.sysv_header.specs.Reading.{header_of, header_at}
 use Rattle.sysv.specs.Layout.{sysv_table_of}
 use Rattle.sysv.specs.Table.{SysvTable}
-use Rattle.sysv_check.specs.declared.table.Checked.{Checked}
+use Rattle.sysv_check.specs.declared.table.Fault.{Fault}
+use Rattle.sysv_check.specs.declared.table.Fault.TheVariants.{Broken, Refused}
 use Rattle.sysv_check.specs.Rules.{first_global, t1, t2, t3, sysv_table_check}
 use Rattle.sysv_check_chains.specs.Pass.{may_stand, all_spent}
 use Rattle.sysv_check_chains.specs.Hash.{sysv_hash_at}
@@ -48,7 +56,7 @@ module _ (class : Class) (order : Order) (table symbols strings : List ℕ) (low
   abbrev shapes : Bool
   shapes = t1 header.bucket_count header.chain_count count low
 
-  abbrev unread : ℕ
+  abbrev unread : std.Option ℕ
   unread = first_from (λ i. not (readable_in class order symbols strings i)) low count
 
   abbrev counts : Bool
@@ -63,51 +71,51 @@ module _ (class : Class) (order : Order) (table symbols strings : List ℕ) (low
   chains_is : t1 whole.bucket_count whole.chain_count whole.count low ≡ true → t3 whole low ≡ counts
   chains_is h = rw (own, many) (sym (counted whole low h))
 
-  pub check_1 : shapes ≡ false → sysv_table_check whole low ≡ Checked.Broken 1
+  pub check_1 : shapes ≡ false → sysv_table_check whole low ≡ Err (Broken 1)
   check_1 e = rw (shape_is ∙ e)
 
-  module _ (one : shapes ≡ true) (lowest : ℕ) (searched : lowest ≡ unread) where
-    within : low ≤ count
-    within = (shaped_facts header.bucket_count header.chain_count count low one).1
+  module _ (one : shapes ≡ true) where
+    names_kept : is_some unread ≡ false → t2 whole low ≡ true
+    names_kept nothing = rw (← many) (every_searched (readable_in class order symbols strings) low count nothing)
 
-    names_kept : lowest ≡ count → t2 whole low ≡ true
-    names_kept same = rw (← many) (every_searched (readable_in class order symbols strings) low count lowest within searched same)
+    names_broken : is_some unread ≡ true → t2 whole low ≡ false
+    names_broken something = rw (← many) (every_missed (readable_in class order symbols strings) low count something)
 
-    names_broken : ¬ (lowest ≡ count) → t2 whole low ≡ false
-    names_broken differ =
-        rw (← many) (every_missed (readable_in class order symbols strings) low count lowest within searched differ)
+    pub check_2 : is_some unread ≡ true → sysv_table_check whole low ≡ Err (Broken 2)
+    check_2 something = rw (shape_is ∙ one, names_broken something)
 
-    pub check_2 : ¬ (lowest ≡ count) → sysv_table_check whole low ≡ Checked.Broken 2
-    check_2 differ = rw (shape_is ∙ one, names_broken differ)
+    module _ (nothing : is_some unread ≡ false) where
+      pub check_3 : counts ≡ false → sysv_table_check whole low ≡ Err (Broken 3)
+      check_3 e = rw (shape_is ∙ one, names_kept nothing, chains_is (shape_is ∙ one) ∙ e)
 
-    module _ (same : lowest ≡ count) where
-      pub check_3 : counts ≡ false → sysv_table_check whole low ≡ Checked.Broken 3
-      check_3 e = rw (shape_is ∙ one, names_kept same, chains_is (shape_is ∙ one) ∙ e)
+      pub check_all : counts ≡ true → sysv_table_check whole low ≡ Ok tt
+      check_all e = rw (shape_is ∙ one, names_kept nothing, chains_is (shape_is ∙ one) ∙ e)
 
-      pub check_all : counts ≡ true → sysv_table_check whole low ≡ Checked.Accepted
-      check_all e = rw (shape_is ∙ one, names_kept same, chains_is (shape_is ∙ one) ∙ e)
+pub number_there : (o : std.Option ℕ) → is_some (option_map symbol_index o) ≡ is_some o
+number_there None = refl
+number_there (Some i) = refl
 
 -- ---- the refusals
 
-abbrev pub check_from : SymbolCount → HeaderAt → Checked → Checked
-check_from (SymbolCount.Refused r) header checked = Checked.Refused r
-check_from (SymbolCount.Symbols n) (HeaderAt.Refused r) checked = Checked.Refused r
-check_from (SymbolCount.Symbols n) (HeaderAt.At header) checked = checked
+abbrev pub check_from : Result ℕ Refusal → Result Header Refusal → Result (Unit {0}) Fault → Result (Unit {0}) Fault
+check_from (Err r) header checked = Err (Refused r)
+check_from (Ok n) (Err r) checked = Err (Refused r)
+check_from (Ok n) (Ok header) checked = checked
 
 module _ (class : Class) (order : Order) (table symbols strings : List ℕ) where
   pub check_from_lem : sysv_check class order table symbols strings
-      ≡ cond (ltb limit (length strings)) (Checked.Refused too_long)
+      ≡ cond (ltb limit (length strings)) (Err (Refused too_long))
       (check_from (symbol_count class symbols) (header_at order table)
       (sysv_table_check (sysv_table_of class order table symbols strings) first_global))
   unfolding sysv_check header_at
   check_from_lem =
       by (ltb limit (length table)) (ltb limit (length symbols)) (ltb limit (length strings)) (sysv_fault order table) _
     where
-      by : (a b c : Bool) (o : Option Refusal) (checked : Checked)
-          → cond (cond a true (cond b true (cond c true false))) (Checked.Refused too_long) (unless_refused Checked.Refused o checked)
-          ≡ cond c (Checked.Refused too_long)
-          (check_from (cond b (SymbolCount.Refused too_long) (SymbolCount.Symbols (symbols_in class symbols)))
-          (cond a (HeaderAt.Refused too_long) (unless_refused HeaderAt.Refused o (HeaderAt.At (header_of order table)))) checked)
+      by : (a b c : Bool) (o : Option Refusal) (checked : Result (Unit {0}) Fault)
+          → cond (cond a true (cond b true (cond c true false))) (Err (Refused too_long)) (unless_refused (λ r. Err (Refused r)) o checked)
+          ≡ cond c (Err (Refused too_long))
+          (check_from (cond b (Err too_long) (Ok (symbols_in class symbols)))
+          (cond a (Err too_long) (unless_refused Err o (Ok (header_of order table)))) checked)
       by true true true o checked = refl
       by true true false o checked = refl
       by true false true o checked = refl
@@ -118,13 +126,9 @@ module _ (class : Class) (order : Order) (table symbols strings : List ℕ) wher
       by false false false none checked = refl
       by false false false (some r) checked = refl
 
-pub count_read : (class : Class) (symbols : List ℕ) (n : ℕ) → symbol_count class symbols ≡ SymbolCount.Symbols n
-    → n ≡ symbols_in class symbols
+pub count_read : (class : Class) (symbols : List ℕ) (n : ℕ) → symbol_count class symbols ≡ Ok n → n ≡ symbols_in class symbols
 count_read class symbols n h = by (ltb limit (length symbols)) h
   where
-    by : (b : Bool)
-        → cond b (SymbolCount.Refused too_long) (SymbolCount.Symbols (symbols_in class symbols))
-        ≡ SymbolCount.Symbols n
-        → n ≡ symbols_in class symbols
+    by : (b : Bool) → cond {A = Result ℕ Refusal} b (Err too_long) (Ok (symbols_in class symbols)) ≡ Ok n → n ≡ symbols_in class symbols
     by true e = cc
     by false e = cc

@@ -4,11 +4,18 @@
 --     Ruled, rules      all of them
 --     right_both        why a number stands on a chain, by how often it does
 -- Assumes nothing.
-use Rattle.std.proofs.Common.{◌≡◌, refl, Bool, true, false, cond, not, ◌&&◌, ℕ, ◌-◌, ◌≤◌, ◌<◌, arith, leb, eqb, leb-true, eqb-true}
+use mathlib.Core.Path.{◌≡◌, refl}
+use mathlib.Core.Bool.{Bool, true, false, cond, not, ◌&&◌}
+use Prim.Native.Nat.{ℕ, ◌-◌, ◌≤◌, ◌<◌}
+use native.Mathlib.Omega.{arith}
+use lib.Dec.{leb, eqb}
+use borrow.Author.Tests.{leb-true, eqb-true}
 use Rattle.lookup.specs.Pick.{from, is_none}
 use Rattle.lookup.proofs.Picking.{from_all, and_left, and_right}
 use Rattle.sysv.specs.Table.{SysvTable, numbers}
-use Rattle.sysv_check.specs.declared.table.Checked.TheVariants.{Accepted, Broken}
+use Rattle.std.specs.Prelude.{Result, Ok, Err}
+use Rattle.sysv_check.specs.declared.table.Fault.{Fault}
+use Rattle.sysv_check.specs.declared.table.Fault.TheVariants.{Broken}
 use Rattle.sysv_check.specs.Count.{every, times}
 use Rattle.sysv_check.specs.Rules.{ends, right, t1, t2, t3, t3_at, sysv_table_check}
 use Rattle.sysv_check.specs.Accepted.{Chain}
@@ -65,14 +72,14 @@ right_both true false k often more h = absurd (omega arith)
 right_both false c k often more h = absurd (omega arith)
 
 none_broken : (a b c : Bool)
-    → cond (not a) (Broken 1) (cond (not b) (Broken 2) (cond (not c) (Broken 3) Accepted)) ≡ Accepted
+    → cond {A = Result (Unit {0}) Fault} (not a) (Err (Broken 1)) (cond (not b) (Err (Broken 2)) (cond (not c) (Err (Broken 3)) (Ok tt))) ≡ Ok tt
     → (a ≡ true) × (b ≡ true) × (c ≡ true)
 none_broken true true true h = (refl, refl, refl)
 none_broken true true false h = (cc, cc, cc)
 none_broken true false c h = (cc, cc, cc)
 none_broken false b c h = (cc, cc, cc)
 
-pub rules : (t : SysvTable) (low : ℕ) → sysv_table_check t low ≡ Accepted → Ruled t low
+pub rules : (t : SysvTable) (low : ℕ) → sysv_table_check t low ≡ Ok tt → Ruled t low
 rules t low h =
     let n = none_broken (t1 t.bucket_count t.chain_count t.count low) (t2 t low) (t3 t low) h in
     record {

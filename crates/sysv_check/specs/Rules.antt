@@ -6,12 +6,12 @@
 --     t1, t2, t3          the rules
 --     sysv_table_check    the first that is broken, or accepted
 -- Assumes nothing.
-use Rattle.std.specs.Prelude.{ℕ, zero, suc, ◌-◌, ◌%◌, Bool, true, cond, not, ◌&&◌, leb, ltb, eqb}
+use Rattle.std.specs.Prelude.{ℕ, zero, suc, ◌-◌, ◌%◌, Bool, true, cond, not, ◌&&◌, leb, ltb, eqb, Result, Ok, Err}
 use Rattle.lookup.specs.Pick.{from, is_none}
 use Rattle.sysv.specs.Table.{SysvTable, numbers}
 use Rattle.sysv_check_chains.specs.Hash.{sysv_hash_at}
-use Rattle.sysv_check.specs.declared.table.Checked.{Checked}
-use Rattle.sysv_check.specs.declared.table.Checked.TheVariants.{Accepted, Broken}
+use Rattle.sysv_check.specs.declared.table.Fault.{Fault}
+use Rattle.sysv_check.specs.declared.table.Fault.TheVariants.{Broken}
 use Rattle.sysv_check.specs.Count.{every, times}
 
 abbrev pub first_global : ℕ
@@ -48,7 +48,7 @@ module _ (t : SysvTable) where
     abbrev pub t3 : Bool
     t3 = every t3_at (from 0 t.bucket_count)
 
-    abbrev pub sysv_table_check : Checked
+    abbrev pub sysv_table_check : Result (Unit {0}) Fault
     sysv_table_check =
-        cond (not (t1 t.bucket_count t.chain_count t.count low)) (Broken 1)
-        (cond (not t2) (Broken 2) (cond (not t3) (Broken 3) Accepted))
+        cond (not (t1 t.bucket_count t.chain_count t.count low)) (Err (Broken 1))
+        (cond (not t2) (Err (Broken 2)) (cond (not t3) (Err (Broken 3)) (Ok tt)))
