@@ -73,8 +73,8 @@ pub extern "C" fn fetulombo_note_step(order: u8, align: u64, bytes: &[u8], at: u
     match reader_for(order, align) {
         Ok(mut reader) => {
             reader.at = at;
-            let found = reader.step(bytes);
-            note_answer(found, reader.at)
+            let (found, next) = reader.step(bytes);
+            note_answer(found, next.at)
         }
         Err(refusal) => no_note(refusal.0, bytes.len()),
     }

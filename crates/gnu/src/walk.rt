@@ -28,22 +28,26 @@ pub(crate) fn walk(
         ≡ walk_pairs class order (parts_of parts.entry) (asked_of asked.entry) hash values_at base
         start end }
 {
+    let mut i = start;
     let mut probes: usize = 0;
-    for i in start..end {
+    // No `for`: document 01 asks for a loop that yields what it found by break.
+    let found = 'pairs: loop {
+        if i == end {
+            break None;
+        }
         probes += 1;
         let value = word_of(order, parts.table, values_at, i - base);
-        if value / 2 == hash / 2 && is_wanted(class, order, parts, SymbolIndex(i), asked) {
-            return Lookup {
-                symbol: Some(SymbolIndex(i)),
-                probes,
-            };
+        let symbol = SymbolIndex(i);
+        if value / 2 == hash / 2 && is_wanted(class, order, parts, symbol, asked) {
+            break Some(symbol);
         }
         if value % 2 == 1 {
-            break;
+            break None;
         }
-    }
+        i += 1;
+    };
     Lookup {
-        symbol: None,
+        symbol: found,
         probes,
     }
 }

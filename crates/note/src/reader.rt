@@ -67,12 +67,23 @@ pub fn reader_for(order: Order, align: u64) -> Result<NoteReader, Refusal>
 }
 
 impl NoteReader {
-    // One note further, from any place. Refused first: bytes that are too long. Then a reader at or
+    // One note further, from any place: what is found, and the reader that stands after it. By value, as
+    // document 01 asks for it. Refused as `advance`.
+    pub fn step(self, bytes: &[u8]) -> (Result<Option<Note>, Refusal>, NoteReader)
+        ensures found { result.0 ≡ note_step self bytes.now }
+        ensures next { result.1 ≡ reader_after self bytes.now }
+    {
+        let mut reader = self;
+        let found = reader.advance(bytes);
+        (found, reader)
+    }
+
+    // The same of the reader itself. Refused first: bytes that are too long. Then a reader at or
     // past their end is at its end, and stays as it is. Then refused: fewer bytes than a header's; a
     // name, then a descriptor, that reaches past them. A refused reader stands at the end of these
     // bytes, where the next step over them finds the end unless they are too long.
     #[tactic(auto, using(crate::proofs::Aligned::aligned_next), unfolding(crate::specs::Notes::note_step))]
-    pub fn step(&mut self, bytes: &[u8]) -> Result<Option<Note>, Refusal>
+    fn advance(&mut self, bytes: &[u8]) -> Result<Option<Note>, Refusal>
         ensures found { result ≡ note_step self.old bytes.now }
         ensures moved { self.new ≡ reader_after self.old bytes.now }
     {

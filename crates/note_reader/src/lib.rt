@@ -30,7 +30,9 @@ impl<'a> Notes<'a> {
         ensures found { result ≡ answered self.old }
         ensures moved { self.new ≡ stepped self.old }
     {
-        self.reader.step(self.bytes)
+        let (found, reader) = self.reader.step(self.bytes);
+        self.reader = reader;
+        found
     }
 }
 

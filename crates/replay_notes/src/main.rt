@@ -46,7 +46,8 @@ fn recorded_note(step: &[u8]) -> Option<Result<Option<Note>, Refusal>> {
 // Whether each step from the reader on is the one that is recorded, to the end.
 fn notes_agree(record: &[u8; RECORD], mut reader: NoteReader, bytes: &[u8]) -> bool {
     for step in record[STEPS..].chunks(STEP) {
-        let found = reader.step(bytes);
+        let (found, next) = reader.step(bytes);
+        reader = next;
         if recorded_note(step) != Some(found) {
             return false;
         }
