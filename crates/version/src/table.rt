@@ -61,8 +61,8 @@ fn is_valid(strings: &[u8], version: Version) -> bool
 }
 
 // The version behind an index. The store may hold anything. Refused first: strings that are too long.
-// Then 0 and 1 are special, and there is none. Then refused: an index past the whole entries, or an entry of another
-// kind, or one whose name or (of a need) file lies outside the strings.
+// Then 0 and 1 are special, and none stands behind them. Then refused: an index past the whole entries,
+// or an entry of another kind, or one whose name or (of a need) file lies outside the strings.
 #[tactic(auto, unfolding(crate::specs::Table::entry_at))]
 pub fn entry(store: &[u32], strings: &[u8], index: VersionIndex) -> Result<Option<Version>, Refusal>
     ensures { result ≡ entry_at store.now strings.now index }

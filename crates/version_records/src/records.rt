@@ -41,7 +41,7 @@ const VERNEED: ListShape = ListShape {
     bad_next: BAD_VERNEED_NEXT,
 };
 
-// The same of a record of a chain.
+// The same of a record of a chain, which has no aux: one shape for both would hold two fields for nothing.
 #[derive(Clone, Copy, Debug, PartialEq, Eq)]
 struct ChainShape {
     size: usize,
