@@ -1,4 +1,4 @@
--- What a lookup is lent and asked, by what stands behind its references.
+-- Need not be believed: what a lookup is lent and asked, by what stands behind its references. Inner contracts cite it.
 --     parts_of    the parts
 --     asked_of    what is asked for
 -- Assumes nothing.

@@ -69,24 +69,31 @@ fn asked_of(record: &[u8]) -> Asked {
     }
 }
 
-// The recorded answer of the lookup: a refusal, or the symbol or none, and the probes.
-fn recorded_lookup(record: &[u8]) -> Result<Lookup, Refusal> {
+// The recorded answer of the lookup: a refusal, or the symbol or none, and the probes. No answer where
+// the byte that says whether there is a symbol is neither 0 nor 1.
+fn recorded_lookup(record: &[u8]) -> Option<Result<Lookup, Refusal>> {
     let symbol = SymbolIndex(u32_at(Order::Little, record, ANSWER + 2));
-    match u8_at(record, ANSWER) {
-        0 => Ok(Lookup {
-            symbol: (u8_at(record, ANSWER + 1) == 1).then_some(symbol),
-            probes: u32_at(Order::Little, record, ANSWER + 6) as usize,
-        }),
-        refusal => Err(Refusal(refusal as u32)),
-    }
+    let probes = u32_at(Order::Little, record, ANSWER + 6) as usize;
+    let found = match (u8_at(record, ANSWER), u8_at(record, ANSWER + 1)) {
+        (0, 0) => None,
+        (0, 1) => Some(symbol),
+        (0, _) => return None,
+        (refusal, _) => return Some(Err(Refusal(refusal as u32))),
+    };
+    Some(Ok(Lookup {
+        symbol: found,
+        probes,
+    }))
 }
 
-// The recorded length of the table: a refusal, or so many symbols, or nothing.
-fn recorded_length(record: &[u8]) -> Result<Option<u32>, Refusal> {
+// The recorded length of the table: a refusal, or so many symbols, or nothing. No answer as above.
+fn recorded_length(record: &[u8]) -> Option<Result<Option<u32>, Refusal>> {
     let count = u32_at(Order::Little, record, LENGTH + 2);
-    match u8_at(record, LENGTH) {
-        0 => Ok((u8_at(record, LENGTH + 1) == 1).then_some(count)),
-        refusal => Err(Refusal(refusal as u32)),
+    match (u8_at(record, LENGTH), u8_at(record, LENGTH + 1)) {
+        (0, 0) => Some(Ok(None)),
+        (0, 1) => Some(Ok(Some(count))),
+        (0, _) => None,
+        (refusal, _) => Some(Err(Refusal(refusal as u32))),
     }
 }
 
@@ -107,7 +114,7 @@ fn tables_agree(record: &[u8], parts: Parts) -> bool {
             sysv_header::length::table_length(order, parts.table).map(Some),
         )
     };
-    found == recorded_lookup(record) && length == recorded_length(record)
+    Some(found) == recorded_lookup(record) && Some(length) == recorded_length(record)
 }
 
 // The recorded versions can all be read.

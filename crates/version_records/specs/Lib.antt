@@ -1,3 +1,4 @@
 pub mod Outcome
 pub mod Records
+pub mod Tested
 pub mod Walk

@@ -4,7 +4,6 @@
 --     verdef_shape, verneed_shape     those of the two lists
 --     verdaux_shape, vernaux_shape    the same of a record of a chain, which has no aux
 --     place_after                     where the next record of a list is: the end where `next` is 0
---     left_at, offset_at              the bytes from a place on; an offset at a place, which leads no further
 --     record_at, aux_at               the record of a list, of a chain, at a place: short, aux, next, in that order
 --     listed, verdefs, verneeds       the records of a list from a place on
 --     vernauxs                        the records of a chain: as many as the count says; a `next` of 0 repeats the record
@@ -14,7 +13,7 @@ use Rattle.std.specs.Prelude.{ℕ, ◌+◌, ◌-◌, List, cond, length, ltb, eq
 use Rattle.endian.specs.declared.kinds.Order.{Order}
 use Rattle.endian.specs.declared.refusals.Refusal.{Refusal}
 use Rattle.endian.specs.Refusals.{verdef_short, bad_verdef_aux, bad_verdef_next, verdaux_short, bad_verdaux_next, verneed_short, bad_verneed_aux, bad_verneed_next, vernaux_short, bad_vernaux_next}
-use Rattle.endian.specs.Word.{word_at, field_at}
+use Rattle.endian.specs.Word.{field_at}
 use Rattle.version_layout.specs.Layouts.{field_of, verdef, verdaux, verneed, vernaux}
 use Rattle.version_records.specs.Outcome.{Outcome}
 use Rattle.std.specs.Prelude.{Ok, Err}
@@ -42,13 +41,6 @@ vernaux_shape = record { size = 16; next = vernaux.next.1; short = vernaux_short
 
 unfoldable pub place_after : (count at next : ℕ) → ℕ
 place_after count at next = cond (eqb next 0) count (at + next)
-
--- the bytes from a place on, and an offset at a place that may lead so far: inner contracts cite them
-abbrev pub left_at : List ℕ → (at size : ℕ) → Refusal → Outcome ℕ
-left_at s at size short = cond (ltb (length s - at) size) (Err short) (Ok (length s - at))
-
-abbrev pub offset_at : Order → List ℕ → (at left : ℕ) → Refusal → Outcome ℕ
-offset_at order s at left bad = cond (ltb left (word_at order 4 s at)) (Err bad) (Ok (word_at order 4 s at))
 
 unfoldable pub record_at : ListShape → Order → List ℕ → ℕ → Outcome Record
 record_at shape order s at =

@@ -1,7 +1,8 @@
 // The records of the version sections, by place. A list is of Verdefs or of Verneeds; each record of
 // it has a chain of Verdauxs or of Vernauxs.
 ghost use Rattle.std.specs.Prelude.{◌≡◌, ◌+◌, ◌≤◌, ◌<◌};
-ghost use Rattle.version_records.specs.Records.{verdef_shape, verneed_shape, verdaux_shape, vernaux_shape, place_after, left_at, offset_at, record_at, aux_at};
+ghost use Rattle.version_records.specs.Records.{verdef_shape, verneed_shape, verdaux_shape, vernaux_shape, place_after, record_at, aux_at};
+ghost use Rattle.version_records.specs.Tested.{left_at, offset_at};
 
 use endian::kinds::Order;
 use endian::refusals::{
