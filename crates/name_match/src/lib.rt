@@ -50,7 +50,7 @@ fn blocks_are_same(bytes: &[u8], from: usize, name: &[u8]) -> bool
     true
 }
 
-// The same for a name of any length, byte by byte.
+// The same for a name of any length, byte by byte: by places in both parts, of which `Stands` speaks.
 fn bytes_are_same(bytes: &[u8], from: usize, name: &[u8]) -> bool
     requires { from + length name.now < length bytes.now }
     ensures { Stands result bytes.now from name.now }
