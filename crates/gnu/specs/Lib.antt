@@ -1,3 +1,4 @@
 pub mod Find
 pub mod Lookup
+pub mod Start
 pub mod Walk

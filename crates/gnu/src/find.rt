@@ -16,6 +16,7 @@ use lookup::{Asked, Lookup, Parts, smaller};
 use symbol::table::symbol_count;
 
 // The lookup by a layout: the bloom filter, the start, the walk.
+#[tactic(auto, using(crate::proofs::Finds::filter_any, crate::proofs::Lookups::start_range, crate::proofs::Lookups::lookup_stops, crate::proofs::Lookups::lookup_refuses, crate::proofs::Lookups::lookup_nowhere, crate::proofs::Starts::none_start, crate::proofs::Starts::some_start))]
 fn lookup_at(
     class: Class,
     order: Order,
@@ -36,10 +37,9 @@ fn lookup_at(
     if !bloom_filter(class, order, parts.table, layout, hash)? {
         return Ok(nothing);
     }
-    let start = start_of(class, order, parts.table, layout, count, hash);
-    if start == 0 {
+    let Some(start) = start_of(class, order, parts.table, layout, count, hash) else {
         return Ok(nothing);
-    }
+    };
     let base = layout.symbol_base;
     let end = start + smaller(count - start, layout.value_count - (start - base));
     Ok(walk(

@@ -11,6 +11,7 @@ use symbol::table::SymbolIndex;
 // The pairs of symbols `start` to `end - 1`, to the first match, an ended chain or no more pairs.
 // A value is compared but for its low bit, which ends the chain; then the name decides, then the
 // version. A probe is one pair.
+#[tactic(auto, using(crate::proofs::Walking::walk_from_start, crate::proofs::Walking::walk_from_match, crate::proofs::Walking::walk_from_end, crate::proofs::Walking::walk_from_on, crate::proofs::Walking::walk_from_none), unfolding(crate::specs::Walk::walk_pairs))]
 pub(crate) fn walk(
     class: Class,
     order: Order,

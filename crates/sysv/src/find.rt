@@ -15,6 +15,7 @@ use sysv_header::header::{Header, header_of};
 use word::u32_at;
 
 // The walk from a number on: test and follow, at most as many tests as there are chains.
+#[tactic(auto, using(crate::proofs::Walking::walking_start, crate::proofs::Walking::walking_zero, crate::proofs::Walking::walking_spent, crate::proofs::Walking::walking_match, crate::proofs::Walking::walking_past, crate::proofs::Walking::walking_on))]
 fn walk(
     class: Class,
     order: Order,
@@ -56,6 +57,7 @@ fn walk(
 }
 
 // The lookup of a hash in a table of this header.
+#[tactic(auto, using(crate::proofs::Headers::lookup_none))]
 fn lookup_at(
     class: Class,
     order: Order,
@@ -85,7 +87,7 @@ fn lookup_at(
 // The symbol of a name and a version, by the name's SysV hash, with the probes that were made: one
 // for each number tested. Refused in this order: a part that is too long, the store apart; as
 // `header_of`.
-#[tactic(auto, using(crate::proofs::Headers::find_from_lem))]
+#[tactic(auto, using(crate::proofs::Headers::find_from_lem, sysv_header::proofs::Headers::header_read))]
 pub fn find(
     class: Class,
     order: Order,
