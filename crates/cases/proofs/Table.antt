@@ -11,12 +11,7 @@
 --     hidden_version    Versym 0x8002, entry 2 valid: without need no, with equal need yes
 --     no_versym         No versym: without need yes, with need no
 -- Assumes nothing.
-use Prim.Native.Nat.{ℕ, ◌/◌, ◌%◌}
-use mathlib.Core.Path.{◌≡◌, refl}
-use mathlib.Core.Bool.{Bool, true, false}
-use mathlib.Core.List.{List, [], ◌∷◌, ◌++◌, map}
-use lib.ListN.{replicate}
-use Rattle.std.specs.Prelude.{Result, Ok}
+use Rattle.std.proofs.Common.{ℕ, ◌/◌, ◌%◌, ◌≡◌, refl, Bool, true, false, List, [], ◌∷◌, ◌++◌, map, replicate, Result, Ok}
 use Rattle.endian.specs.declared.kinds.Class.TheVariants.{Elf32, Elf64}
 use Rattle.endian.specs.declared.kinds.Order.{Order}
 use Rattle.endian.specs.declared.kinds.Order.TheVariants.{Little, Big}

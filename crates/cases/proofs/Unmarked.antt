@@ -1,6 +1,5 @@
 -- A case that document 01 states beside those it marks [P]: alignment 5 or 16 gives 5. Assumes nothing.
-use mathlib.Core.Path.{◌≡◌, refl}
-use mathlib.Core.List.{[]}
+use Rattle.std.proofs.Common.{◌≡◌, refl, []}
 use Rattle.endian.specs.declared.kinds.Order.{Order}
 use Rattle.endian.specs.Refusals.{bad_note_alignment}
 use Rattle.note.specs.Walk.{none, stopped, section_notes}

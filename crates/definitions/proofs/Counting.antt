@@ -1,9 +1,8 @@
 -- How many numbers of a run pass a test, by the library's `filter` and `count`.
 --     counted    the count of those of 1 to n - 1 is `count_in`
 -- Assumes nothing.
-use Rattle.std.proofs.Common.{◌≡◌, ℕ, zero, suc, ◌-◌, Bool, length, filter, refl}
+use Rattle.std.proofs.Common.{◌≡◌, ℕ, zero, suc, ◌-◌, Bool, length, filter, refl, add-one}
 use Rattle.std.specs.List.{range_with_len}
-use native.Mathlib.Numerals.{add-one}
 use Rattle.lookup.specs.Pick.{from, select}
 use Rattle.lookup.proofs.Picking.{by-test}
 use Rattle.definitions.specs.Definitions.{count_in}

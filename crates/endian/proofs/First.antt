@@ -3,13 +3,7 @@
 --     first_next    element i is not
 --     first_end     there is none from i on
 -- Assumes nothing.
-use Prim.Native.Nat.{ℕ, suc, ◌+◌, ◌<◌, ◌≤◌}
-use mathlib.Core.Path.{◌≡◌, sym}
-use mathlib.Core.Bool.{Bool, true, false}
-use mathlib.Core.List.{List}
-use native.Mathlib.Numerals.{add-one}
-use lib.ListN.{length, get_or, drop, drop_of_length-le}
-use lib.Seq.{drop-cons}
+use Rattle.std.proofs.Common.{ℕ, suc, ◌+◌, ◌<◌, ◌≤◌, ◌≡◌, sym, Bool, true, false, List, add-one, length, get_or, drop, drop_of_length-le, drop-cons}
 use Rattle.endian.specs.First.{first}
 
 module _ (p : ℕ → Bool) (s : List ℕ) (i : ℕ) where

@@ -8,13 +8,9 @@
 --     word_more    a little word: its first byte, and the word after it
 --     word_under   it fits more bytes too
 --     word_enough  it is the word of its first bytes where the others are past the end
-use Prim.Native.Nat.{ℕ, zero, suc, ◌+◌, ◌*◌, ◌^◌, ◌≤◌, ◌<◌}
-use mathlib.Core.Path.{◌≡◌, refl, ◌∙◌}
-use mathlib.Core.List.{List}
-use native.Mathlib.Omega.{arith}
-use native.Mathlib.Nat.{add-zero, add-suc, add_comm, add_assoc, mul-add, mul-zero, mul_assoc, mul-le-mul_left, pow-succ', pow-le-pow_right, lt_of_lt_of_le}
-use lib.Pow.{pow-add}
-use lib.ListN.{length, get_or, get_or-eq_default}
+use Rattle.std.proofs.Common.{ℕ, zero, suc, ◌+◌, ◌*◌, ◌^◌, ◌≤◌, ◌<◌, ◌≡◌, refl, ◌∙◌, List, arith, add-zero, add-suc, add_comm, add_assoc, mul-add, mul-zero, mul_assoc, mul-le-mul_left, lt_of_lt_of_le, pow-add, length, get_or}
+use native.Mathlib.Nat.{pow-succ', pow-le-pow_right}
+use lib.ListN.{get_or-eq_default}
 use Rattle.endian.specs.Bytes.{Bytes}
 use Rattle.endian.specs.Word.{word_at}
 use Rattle.endian.specs.declared.kinds.Order.{Order}

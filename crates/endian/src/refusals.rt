@@ -10,7 +10,7 @@ use std::fmt;
 // The most bytes that a lent part may have.
 pub const LIMIT: usize = 1073741824;
 
-// A refusal is its number, and nothing else.
+// A refusal is its number, and nothing else: no enum, since marks::marks_of and export::answers::no_number take any.
 #[derive(Clone, Copy, Debug, PartialEq, Eq)]
 pub struct Refusal(pub u32);
 

@@ -1,6 +1,5 @@
 -- A truth that is cast to a number is 1 or 0. Assumes nothing.
-use mathlib.Core.Path.{◌≡◌, refl}
-use mathlib.Core.Bool.{Bool, true, false}
+use Rattle.std.proofs.Common.{◌≡◌, refl, Bool, true, false}
 use mir.Val.{bool_byte}
 use Rattle.export.specs.Answers.{truth}
 

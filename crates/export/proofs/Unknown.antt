@@ -5,12 +5,7 @@
 --     unknown_long          so is an answer's where a number is no kind, whatever it would be: 1 with a part that is too long
 --     unknown_short         and 39 with none
 --     known                 where the numbers are kinds, the answer is what it would be
-use Prim.Native.Nat.{ℕ}
-use mathlib.Core.Path.{◌≡◌, refl, ap, ◌∙◌}
-use mathlib.Core.Bool.{Bool, true, false, cond}
-use mathlib.Core.List.{List, [], ◌∷◌, map}
-use lib.Dec.{ltb}
-use lib.ListN.{length}
+use Rattle.std.proofs.Common.{ℕ, ◌≡◌, refl, ap, ◌∙◌, Bool, true, false, cond, List, [], ◌∷◌, map, ltb, length}
 use Rattle.endian.specs.declared.kinds.Class.TheVariants.{Elf32, Elf64}
 use Rattle.endian.specs.declared.kinds.Order.TheVariants.{Little, Big}
 use Rattle.endian.specs.declared.refusals.Refusal.{Refusal}

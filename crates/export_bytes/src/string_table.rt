@@ -20,10 +20,7 @@ pub extern "C" fn fetulombo_string_at(strings: &[u8], offset: u32) -> PlaceAnswe
 pub extern "C" fn fetulombo_string_equals(strings: &[u8], offset: u32, name: &[u8]) -> NumberAnswer
     ensures { result ≡ equals_answer strings.now offset name.now }
 {
-    if LIMIT < strings.len() {
-        return no_number(TOO_LONG);
-    }
-    if LIMIT < name.len() {
+    if LIMIT < strings.len() || LIMIT < name.len() {
         return no_number(TOO_LONG);
     }
     truth_answer(strings::string_equals(strings, offset, name))

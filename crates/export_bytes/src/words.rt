@@ -1,4 +1,5 @@
 // Words at a place, for C. Refused in this order: bytes that are too long; a number that is no order.
+// A function for each width, as the C interface names them.
 ghost use Rattle.std.specs.Prelude.{◌≡◌};
 ghost use Rattle.export_bytes.specs.Words.{word_answer};
 

@@ -1,17 +1,15 @@
 -- The answers about notes as C gets them: the number of a refusal, or 0, and the values of each case; what a case lacks is 0.
---     no_note, note_answer    of `NoteStep`; next is the place of the reader after the step
+--     no_note, note_answer    of what a step found; next is the place of the reader after it
 --     no_reader               a refusal for which there is no reader: next is the end
 --     note_step_answer        a step at a place, by the numbers of order and alignment
 --     trimmed_answer          the length of a trimmed name
 -- Assumes nothing.
-use Rattle.std.specs.Prelude.{ℕ, cond, List, [], ◌∷◌, length}
+use Rattle.std.specs.Prelude.{ℕ, cond, List, [], ◌∷◌, length, Result, Ok, Err, Option, Some, None}
 use Rattle.endian.specs.declared.refusals.Refusal.{Refusal}
 use Rattle.endian.specs.Refusals.{any_long, too_long}
-use Rattle.note.specs.declared.reader.NoteStep.{NoteStep}
-use Rattle.note.specs.declared.reader.NoteStep.TheVariants.{Note, End, Refused}
-use Rattle.note.specs.declared.reader.ReaderFor.{ReaderFor}
-use Rattle.note.specs.declared.reader.ReaderFor.TheVariants.{Reader, Refused as Reader-as-Refused}
-use Rattle.note.specs.Notes.{reader_for, to, note_step}
+use Rattle.note.specs.declared.reader.Note.{Note}
+use Rattle.note.specs.declared.reader.NoteReader.{NoteReader}
+use Rattle.note.specs.Notes.{reader_for, to, note_step, reader_after}
 use Rattle.note_name.specs.Trim.{trimmed_length}
 use Rattle.export.specs.Answers.{number, no_number}
 use Rattle.export.specs.Kinds.{is_kind, order_of, unless_unknown}
@@ -30,8 +28,8 @@ no_note refusal next = record {
   next = next;
 }
 
-abbrev pub note_answer : NoteStep → NoteAnswer
-note_answer (Note note next) = record {
+abbrev pub note_answer : Result (Option Note) Refusal → (next : ℕ) → NoteAnswer
+note_answer (Ok (Some note)) next = record {
   refusal = 0;
   found = 1;
   kind = note.kind;
@@ -39,18 +37,18 @@ note_answer (Note note next) = record {
   name_length = note.namesz;
   descriptor = note.descriptor;
   descriptor_length = note.descsz;
-  next = next.at;
+  next = next;
 }
-note_answer (End next) = no_note 0 next.at
-note_answer (Refused r next) = no_note r.0 next.at
+note_answer (Ok None) next = no_note 0 next
+note_answer (Err r) next = no_note r.0 next
 
 abbrev pub no_reader : List ℕ → Refusal → NoteAnswer
 no_reader s r = no_note r.0 (length s)
 
 -- a step of the reader at a place, or why there is no reader
-abbrev pub step_of : List ℕ → ℕ → ReaderFor → NoteAnswer
-step_of s at (Reader reader) = note_answer (note_step (to reader at) s)
-step_of s at (Reader-as-Refused r) = no_reader s r
+abbrev pub step_of : List ℕ → ℕ → Result NoteReader Refusal → NoteAnswer
+step_of s at (Ok reader) = note_answer (note_step (to reader at) s) (reader_after (to reader at) s).at
+step_of s at (Err r) = no_reader s r
 
 abbrev pub note_step_answer : (order align : ℕ) → List ℕ → (at : ℕ) → NoteAnswer
 note_step_answer order align s at =

@@ -2,10 +2,10 @@
 ghost use Rattle.std.specs.Prelude.{◌≡◌};
 ghost use Rattle.export_notes.specs.Notes.{no_note, note_answer, note_step_answer, trimmed_answer};
 
-use endian::refusals::{LIMIT, TOO_LONG, UNKNOWN_KIND};
+use endian::refusals::{LIMIT, Refusal, TOO_LONG};
 use export::answers::{NumberAnswer, no_number, number_answer};
-use export::kinds::{is_kind, order_of, unless_long};
-use note::reader::{NoteReader, NoteStep, ReaderFor, reader_for};
+use export::kinds::known_order;
+use note::reader::{Note, reader_for};
 use note_name::trimmed;
 
 // A step of a note reader: found is 1 with a note, 0 at the end or where it is refused. next is the
@@ -38,11 +38,11 @@ pub(crate) fn no_note(refusal: u32, next: usize) -> NoteAnswer
     }
 }
 
-pub(crate) fn note_answer(step: NoteStep) -> NoteAnswer
-    ensures { result ≡ note_answer step }
+pub(crate) fn note_answer(found: Result<Option<Note>, Refusal>, next: usize) -> NoteAnswer
+    ensures { result ≡ note_answer found next }
 {
-    match step {
-        NoteStep::Note(note, next) => NoteAnswer {
+    match found {
+        Ok(Some(note)) => NoteAnswer {
             refusal: 0,
             found: 1,
             kind: note.kind as u64,
@@ -50,10 +50,10 @@ pub(crate) fn note_answer(step: NoteStep) -> NoteAnswer
             name_length: note.namesz as u64,
             descriptor: note.descriptor as u64,
             descriptor_length: note.descsz as u64,
-            next: next.at as u64,
+            next: next as u64,
         },
-        NoteStep::End(next) => no_note(0, next.at),
-        NoteStep::Refused(refusal, next) => no_note(refusal.0, next.at),
+        Ok(None) => no_note(0, next),
+        Err(refusal) => no_note(refusal.0, next),
     }
 }
 
@@ -63,19 +63,20 @@ pub(crate) fn note_answer(step: NoteStep) -> NoteAnswer
 pub extern "C" fn fetulombo_note_step(order: u8, align: u64, bytes: &[u8], at: usize) -> NoteAnswer
     ensures { result ≡ note_step_answer order align bytes.now at }
 {
-    if !is_kind(order) {
-        return no_note(unless_long(bytes, UNKNOWN_KIND).0, bytes.len());
-    }
+    let order = match known_order(order, &[bytes]) {
+        Ok(order) => order,
+        Err(refusal) => return no_note(refusal.0, bytes.len()),
+    };
     if LIMIT < bytes.len() {
         return no_note(TOO_LONG.0, bytes.len());
     }
-    match reader_for(order_of(order), align) {
-        ReaderFor::Reader(reader) => {
-            let order = reader.order;
-            let align = reader.align;
-            note_answer(NoteReader { order, align, at }.step(bytes))
+    match reader_for(order, align) {
+        Ok(mut reader) => {
+            reader.at = at;
+            let found = reader.step(bytes);
+            note_answer(found, reader.at)
         }
-        ReaderFor::Refused(refusal) => no_note(refusal.0, bytes.len()),
+        Err(refusal) => no_note(refusal.0, bytes.len()),
     }
 }
 

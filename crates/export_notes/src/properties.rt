@@ -3,11 +3,11 @@
 ghost use Rattle.std.specs.Prelude.{◌≡◌};
 ghost use Rattle.export_notes.specs.Properties.{gnu_properties_answer, no_property, property_answer, property_step_answer, property_number_answer};
 
-use endian::refusals::UNKNOWN_KIND;
+use endian::refusals::Refusal;
 use export::answers::{NumberAnswer, no_number, number_answer};
-use export::kinds::{are_kinds, class_of, is_kind, order_of, unless_long};
-use note_properties::{GnuProperties, gnu_properties};
-use property_reader::{PropertyNumber, PropertyReader, PropertyStep, property_number};
+use export::kinds::{known, known_order};
+use note_properties::gnu_properties;
+use property_reader::{Property, PropertyReader, property_number};
 
 // A step of a property reader: found is 1 with a property, 0 at the end or where it is refused. next is
 // the place of the reader after it.
@@ -33,13 +33,13 @@ pub extern "C" fn fetulombo_gnu_properties(
 ) -> NumberAnswer
     ensures { result ≡ gnu_properties_answer class order kind name.now descriptor.now }
 {
-    if !are_kinds(class, order) {
-        return no_number(unless_long(name, unless_long(descriptor, UNKNOWN_KIND)));
-    }
-    match gnu_properties(class_of(class), order_of(order), kind, name, descriptor) {
-        GnuProperties::Reader(_) => number_answer(1),
-        GnuProperties::NotThisKind => number_answer(0),
-        GnuProperties::Refused(refusal) => no_number(refusal),
+    let found = known(class, order, &[name, descriptor]).and_then(|(class, order)| {
+        gnu_properties(class, order, kind, name, descriptor)
+    });
+    match found {
+        Ok(Some(_)) => number_answer(1),
+        Ok(None) => number_answer(0),
+        Err(refusal) => no_number(refusal),
     }
 }
 
@@ -56,20 +56,23 @@ pub(crate) fn no_property(refusal: u32, next: usize) -> PropertyAnswer
     }
 }
 
-pub(crate) fn property_answer(step: PropertyStep) -> PropertyAnswer
-    ensures { result ≡ property_answer step }
+pub(crate) fn property_answer(
+    found: Result<Option<Property>, Refusal>,
+    next: usize,
+) -> PropertyAnswer
+    ensures { result ≡ property_answer found next }
 {
-    match step {
-        PropertyStep::Property(property, next) => PropertyAnswer {
+    match found {
+        Ok(Some(property)) => PropertyAnswer {
             refusal: 0,
             found: 1,
             kind: property.kind as u64,
             start: property.start as u64,
             length: property.size as u64,
-            next: next.at as u64,
+            next: next as u64,
         },
-        PropertyStep::End(next) => no_property(0, next.at),
-        PropertyStep::Refused(refusal, next) => no_property(refusal.0, next.at),
+        Ok(None) => no_property(0, next),
+        Err(refusal) => no_property(refusal.0, next),
     }
 }
 
@@ -83,15 +86,14 @@ pub extern "C" fn fetulombo_property_step(
 ) -> PropertyAnswer
     ensures { result ≡ property_step_answer class order descriptor.now at }
 {
-    if !are_kinds(class, order) {
-        return no_property(unless_long(descriptor, UNKNOWN_KIND).0, descriptor.len());
+    match known(class, order, &[descriptor]) {
+        Ok((class, order)) => {
+            let mut reader = PropertyReader { class, order, at };
+            let found = reader.step(descriptor);
+            property_answer(found, reader.at)
+        }
+        Err(refusal) => no_property(refusal.0, descriptor.len()),
     }
-    let reader = PropertyReader {
-        class: class_of(class),
-        order: order_of(order),
-        at,
-    };
-    property_answer(reader.step(descriptor))
 }
 
 // A property's data as a number.
@@ -99,11 +101,9 @@ pub extern "C" fn fetulombo_property_step(
 pub extern "C" fn fetulombo_property_number(order: u8, part: &[u8]) -> NumberAnswer
     ensures { result ≡ property_number_answer order part.now }
 {
-    if !is_kind(order) {
-        return no_number(unless_long(part, UNKNOWN_KIND));
-    }
-    match property_number(order_of(order), part) {
-        PropertyNumber::Number(value) => number_answer(value as u64),
-        PropertyNumber::Refused(refusal) => no_number(refusal),
+    let read = known_order(order, &[part]).and_then(|order| property_number(order, part));
+    match read {
+        Ok(value) => number_answer(value as u64),
+        Err(refusal) => no_number(refusal),
     }
 }

@@ -2,28 +2,30 @@
 ghost use Rattle.std.specs.Prelude.{◌≡◌};
 ghost use Rattle.segment_data.specs.Part.{segment_data, segment_data_range};
 ghost use Rattle.export.specs.Parts.{entry};
-ghost use Rattle.export_segment_data.specs.Data.{data_answer, range_answer};
+ghost use Rattle.export_segment_data.specs.Data.{data_answer, range_answer, place_part};
 
-use export::answers::PlaceAnswer;
+use endian::refusals::Refusal;
+use export::answers::{PlaceAnswer, place_answer};
 use export::parts::{PartAnswer, entry_of, no_part, part_answer};
-use segment_data::part::{SegmentData, SegmentDataRange};
+use segment_data::part::{segment_data, segment_data_range};
+use strings::Place;
 
 // The bytes of a segment in the file.
 #[unsafe(no_mangle)]
 pub extern "C" fn fetulombo_segment_data(file: &[u8], offset: u64, filesz: u64) -> PlaceAnswer
     ensures { result ≡ data_answer (segment_data file.now (entry 0 offset 0 filesz 0)) }
 {
-    match segment_data::part::segment_data(file, entry_of(0, offset, 0, filesz, 0)) {
-        SegmentData::At { start, len } => PlaceAnswer {
-            refusal: 0,
-            start: start as u64,
-            length: len as u64,
-        },
-        SegmentData::Refused(refusal) => PlaceAnswer {
-            refusal: refusal.0 as u64,
-            start: 0,
-            length: 0,
-        },
+    place_answer(segment_data(file, entry_of(0, offset, 0, filesz, 0)))
+}
+
+// A part of the file that has no number.
+pub(crate) fn place_part(found: Result<Option<Place>, Refusal>) -> PartAnswer
+    ensures { result ≡ place_part found }
+{
+    match found {
+        Ok(Some(place)) => part_answer(place.start, place.len, 0),
+        Ok(None) => no_part(0),
+        Err(refusal) => no_part(refusal.0),
     }
 }
 
@@ -40,9 +42,5 @@ pub extern "C" fn fetulombo_segment_data_range(
     ensures { result ≡ range_answer (segment_data_range file.now (entry 0 offset vaddr filesz 0) address size) }
 {
     let segment = entry_of(0, offset, vaddr, filesz, 0);
-    match segment_data::part::segment_data_range(file, segment, address, size) {
-        SegmentDataRange::At { start, len } => part_answer(start, len, 0),
-        SegmentDataRange::NotHere => no_part(0),
-        SegmentDataRange::Refused(refusal) => no_part(refusal.0),
-    }
+    place_part(segment_data_range(file, segment, address, size))
 }

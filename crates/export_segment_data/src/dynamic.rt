@@ -4,10 +4,10 @@ ghost use Rattle.std.specs.Prelude.{◌≡◌};
 ghost use Rattle.export.specs.Parts.{entry};
 ghost use Rattle.export_segment_data.specs.Dynamic.{segment_dynamic_answer, entry_answer, dynamic_entry_answer};
 
-use endian::refusals::UNKNOWN_KIND;
-use export::kinds::{are_kinds, class_of, is_kind, order_of, unless_long};
+use endian::refusals::Refusal;
+use export::kinds::{known, known_class};
 use export::parts::{PartAnswer, entry_of, no_part, part_answer};
-use segment_dynamic::dynamic::{DynamicEntryAt, SegmentDynamic};
+use segment_dynamic::dynamic::{DynamicEntry, dynamic_entry, segment_dynamic};
 
 // A dynamic entry. found is 0 where there is none and it is not refused.
 #[repr(C)]
@@ -30,34 +30,32 @@ pub extern "C" fn fetulombo_segment_dynamic(
 ) -> PartAnswer
     ensures { result ≡ segment_dynamic_answer class file.now (entry kind offset 0 filesz 0) }
 {
-    if !is_kind(class) {
-        return no_part(unless_long(file, UNKNOWN_KIND).0);
-    }
     let segment = entry_of(kind, offset, 0, filesz, 0);
-    match segment_dynamic::dynamic::segment_dynamic(class_of(class), file, segment) {
-        SegmentDynamic::At { start, len, count } => part_answer(start, len, count as u64),
-        SegmentDynamic::NotThisKind => no_part(0),
-        SegmentDynamic::Refused(refusal) => no_part(refusal.0),
+    let found = known_class(class, &[file]).and_then(|class| segment_dynamic(class, file, segment));
+    match found {
+        Ok(Some(part)) => part_answer(part.place.start, part.place.len, part.count as u64),
+        Ok(None) => no_part(0),
+        Err(refusal) => no_part(refusal.0),
     }
 }
 
-fn entry_answer(found: DynamicEntryAt) -> DynamicAnswer
+fn entry_answer(found: Result<Option<DynamicEntry>, Refusal>) -> DynamicAnswer
     ensures { result ≡ entry_answer found }
 {
     match found {
-        DynamicEntryAt::At(entry) => DynamicAnswer {
+        Ok(Some(entry)) => DynamicAnswer {
             refusal: 0,
             found: 1,
             tag: entry.tag,
             value: entry.value,
         },
-        DynamicEntryAt::NoEntry => DynamicAnswer {
+        Ok(None) => DynamicAnswer {
             refusal: 0,
             found: 0,
             tag: 0,
             value: 0,
         },
-        DynamicEntryAt::Refused(refusal) => DynamicAnswer {
+        Err(refusal) => DynamicAnswer {
             refusal: refusal.0,
             found: 0,
             tag: 0,
@@ -76,13 +74,8 @@ pub extern "C" fn fetulombo_segment_dynamic_entry(
 ) -> DynamicAnswer
     ensures { result ≡ dynamic_entry_answer class order bytes.now number }
 {
-    if !are_kinds(class, order) {
-        return entry_answer(DynamicEntryAt::Refused(unless_long(bytes, UNKNOWN_KIND)));
-    }
-    entry_answer(segment_dynamic::dynamic::dynamic_entry(
-        class_of(class),
-        order_of(order),
-        bytes,
-        number,
-    ))
+    let found = known(class, order, &[bytes]).and_then(|(class, order)| {
+        dynamic_entry(class, order, bytes, number)
+    });
+    entry_answer(found)
 }

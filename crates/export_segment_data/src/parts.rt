@@ -1,17 +1,16 @@
 // What else a segment holds, for C: its interpreter's name and its notes.
 ghost use Rattle.std.specs.Prelude.{◌≡◌};
 ghost use Rattle.endian.specs.declared.kinds.Order.TheVariants.{Little};
-ghost use Rattle.note.specs.Notes.{align_size};
 ghost use Rattle.segment_parts.specs.Interpreter.{segment_interpreter};
 ghost use Rattle.segment_parts.specs.SegmentNotes.{segment_notes};
 ghost use Rattle.export.specs.Parts.{entry};
 ghost use Rattle.export_segment_data.specs.Parts.{interpreter_answer, notes_answer};
 
+use crate::data::place_part;
 use endian::kinds::Order;
 use export::parts::{PartAnswer, entry_of, no_part, part_answer};
-use note::reader::Align;
-use segment_parts::interpreter::SegmentInterpreter;
-use segment_parts::notes::SegmentNotes;
+use segment_parts::interpreter::segment_interpreter;
+use segment_parts::notes::segment_notes;
 
 // The name of a segment's interpreter, without its zero.
 #[unsafe(no_mangle)]
@@ -24,20 +23,7 @@ pub extern "C" fn fetulombo_segment_interpreter(
     ensures { result ≡ interpreter_answer (segment_interpreter file.now (entry kind offset 0 filesz 0)) }
 {
     let segment = entry_of(kind, offset, 0, filesz, 0);
-    match segment_parts::interpreter::segment_interpreter(file, segment) {
-        SegmentInterpreter::At { start, len } => part_answer(start, len, 0),
-        SegmentInterpreter::NotThisKind => no_part(0),
-        SegmentInterpreter::Refused(refusal) => no_part(refusal.0),
-    }
-}
-
-fn align_number(align: Align) -> u64
-    ensures { result ≡ align_size align }
-{
-    match align {
-        Align::Four => 4,
-        Align::Eight => 8,
-    }
+    place_part(segment_interpreter(file, segment))
 }
 
 // The part of the file that a segment's notes stand in; number is their alignment. Neither depends on
@@ -53,12 +39,12 @@ pub extern "C" fn fetulombo_segment_notes(
     ensures { result ≡ notes_answer (segment_notes Little file.now (entry kind offset 0 filesz align)) }
 {
     let segment = entry_of(kind, offset, 0, filesz, align);
-    match segment_parts::notes::segment_notes(Order::Little, file, segment) {
-        SegmentNotes::At { reader, start, len } => {
-            let align = reader.align;
-            part_answer(start, len, align_number(align))
+    match segment_notes(Order::Little, file, segment) {
+        Ok(Some(part)) => {
+            let align = part.reader.align.size();
+            part_answer(part.place.start, part.place.len, align as u64)
         }
-        SegmentNotes::NotThisKind => no_part(0),
-        SegmentNotes::Refused(refusal) => no_part(refusal.0),
+        Ok(None) => no_part(0),
+        Err(refusal) => no_part(refusal.0),
     }
 }

@@ -5,10 +5,10 @@
 ghost use Rattle.std.specs.Prelude.{◌≡◌};
 ghost use Rattle.export_segments.specs.Answers.{segment_count_answer, segment_answer, segment_at_answer, entry, kind_number, facts};
 
-use endian::refusals::UNKNOWN_KIND;
+use endian::refusals::Refusal;
 use export::answers::{NumberAnswer, no_number, number_answer};
-use export::kinds::{are_kinds, class_of, is_kind, order_of, unless_long};
-use segment::table::{SegmentAt, SegmentCount};
+use export::kinds::{known, known_class};
+use segment::table::{segment_at, segment_count};
 use segment_entry::{Segment, SegmentKind};
 
 // The fields of a segment.
@@ -40,20 +40,18 @@ pub struct SegmentFactsAnswer {
 pub extern "C" fn fetulombo_segment_count(class: u8, table: &[u8]) -> NumberAnswer
     ensures { result ≡ segment_count_answer class table.now }
 {
-    if !is_kind(class) {
-        return no_number(unless_long(table, UNKNOWN_KIND));
-    }
-    match segment::table::segment_count(class_of(class), table) {
-        SegmentCount::Segments(count) => number_answer(count as u64),
-        SegmentCount::Refused(refusal) => no_number(refusal),
+    let counted = known_class(class, &[table]).and_then(|class| segment_count(class, table));
+    match counted {
+        Ok(count) => number_answer(count as u64),
+        Err(refusal) => no_number(refusal),
     }
 }
 
-fn segment_answer(found: SegmentAt) -> SegmentAnswer
+fn segment_answer(found: Result<Segment, Refusal>) -> SegmentAnswer
     ensures { result ≡ segment_answer found }
 {
     match found {
-        SegmentAt::At(segment) => SegmentAnswer {
+        Ok(segment) => SegmentAnswer {
             refusal: 0,
             kind: segment.kind,
             flags: segment.flags,
@@ -64,7 +62,7 @@ fn segment_answer(found: SegmentAt) -> SegmentAnswer
             memsz: segment.memsz,
             align: segment.align,
         },
-        SegmentAt::Refused(refusal) => SegmentAnswer {
+        Err(refusal) => SegmentAnswer {
             refusal: refusal.0 as u64,
             kind: 0,
             flags: 0,
@@ -87,10 +85,10 @@ pub extern "C" fn fetulombo_segment_at(
 ) -> SegmentAnswer
     ensures { result ≡ segment_at_answer class order table.now number }
 {
-    if !are_kinds(class, order) {
-        return segment_answer(SegmentAt::Refused(unless_long(table, UNKNOWN_KIND)));
-    }
-    segment_answer(segment::table::segment_at(class_of(class), order_of(order), table, number))
+    let found = known(class, order, &[table]).and_then(|(class, order)| {
+        segment_at(class, order, table, number)
+    });
+    segment_answer(found)
 }
 
 // A segment of this type and these flags; its other numbers are 0.

@@ -3,10 +3,10 @@
 ghost use Rattle.std.specs.Prelude.{◌≡◌};
 ghost use Rattle.export_symbols.specs.Symbols.{symbol_count_answer, symbol_answer, symbol_at_answer, symbol_name_answer};
 
-use endian::refusals::{Refusal, UNKNOWN_KIND};
+use endian::refusals::Refusal;
 use export::answers::{NumberAnswer, PlaceAnswer, no_number, number_answer, place_answer};
-use export::kinds::{are_kinds, class_of, is_kind, order_of, unless_long};
-use symbol::table::SymbolIndex;
+use export::kinds::{known, known_class};
+use symbol::table::{SymbolIndex, symbol_at, symbol_count, symbol_name};
 use symbol_entry::Symbol;
 
 #[repr(C)]
@@ -25,10 +25,8 @@ pub struct SymbolAnswer {
 pub extern "C" fn fetulombo_symbol_count(class: u8, symbols: &[u8]) -> NumberAnswer
     ensures { result ≡ symbol_count_answer class symbols.now }
 {
-    if !is_kind(class) {
-        return no_number(unless_long(symbols, UNKNOWN_KIND));
-    }
-    match symbol::table::symbol_count(class_of(class), symbols) {
+    let counted = known_class(class, &[symbols]).and_then(|class| symbol_count(class, symbols));
+    match counted {
         Ok(count) => number_answer(count as u64),
         Err(refusal) => no_number(refusal),
     }
@@ -68,15 +66,10 @@ pub extern "C" fn fetulombo_symbol_at(
 ) -> SymbolAnswer
     ensures { result ≡ symbol_at_answer class order symbols.now index }
 {
-    if !are_kinds(class, order) {
-        return symbol_answer(Err(unless_long(symbols, UNKNOWN_KIND)));
-    }
-    symbol_answer(symbol::table::symbol_at(
-        class_of(class),
-        order_of(order),
-        symbols,
-        SymbolIndex(index),
-    ))
+    let found = known(class, order, &[symbols]).and_then(|(class, order)| {
+        symbol_at(class, order, symbols, SymbolIndex(index))
+    });
+    symbol_answer(found)
 }
 
 #[unsafe(no_mangle)]
@@ -89,15 +82,8 @@ pub extern "C" fn fetulombo_symbol_name(
 ) -> PlaceAnswer
     ensures { result ≡ symbol_name_answer class order symbols.now strings.now index }
 {
-    if !are_kinds(class, order) {
-        let refusal = unless_long(symbols, unless_long(strings, UNKNOWN_KIND));
-        return place_answer(Err(refusal));
-    }
-    place_answer(symbol::table::symbol_name(
-        class_of(class),
-        order_of(order),
-        symbols,
-        strings,
-        SymbolIndex(index),
-    ))
+    let found = known(class, order, &[symbols, strings]).and_then(|(class, order)| {
+        symbol_name(class, order, symbols, strings, SymbolIndex(index))
+    });
+    place_answer(found)
 }

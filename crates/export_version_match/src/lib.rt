@@ -5,9 +5,9 @@ ghost use Rattle.std.specs.Prelude.{◌≡◌};
 ghost use Rattle.symbol.specs.Table.{symbol_index};
 ghost use Rattle.export_version_match.specs.Answers.{need_of, match_answer};
 
-use endian::refusals::{LIMIT, TOO_LONG, UNKNOWN_KIND};
+use endian::refusals::{TOO_LONG, any_long};
 use export::answers::{NumberAnswer, no_number, truth_answer};
-use export::kinds::{is_kind, order_of, unless_long};
+use export::kinds::known_order;
 use symbol::table::SymbolIndex;
 use version_match::{Need, matches};
 
@@ -37,24 +37,15 @@ pub fn fetulombo_version_matches(
         ≡ match_answer order versyms.now store.now strings.now (symbol_index symbol)
         (need_of needed hash) name.now }
 {
-    if !is_kind(order) {
-        let refusal = unless_long(
-            versyms,
-            unless_long(strings, unless_long(name, UNKNOWN_KIND)),
-        );
-        return no_number(refusal);
-    }
-    if LIMIT < versyms.len() {
-        return no_number(TOO_LONG);
-    }
-    if LIMIT < strings.len() {
-        return no_number(TOO_LONG);
-    }
-    if LIMIT < name.len() {
+    let order = match known_order(order, &[versyms, strings, name]) {
+        Ok(order) => order,
+        Err(refusal) => return no_number(refusal),
+    };
+    if any_long(&[versyms, strings, name]) {
         return no_number(TOO_LONG);
     }
     truth_answer(matches(
-        order_of(order),
+        order,
         versyms,
         store,
         strings,

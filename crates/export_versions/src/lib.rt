@@ -5,11 +5,12 @@ ghost use Rattle.std.specs.Prelude.{◌≡◌};
 ghost use Rattle.version.specs.Table.{entry_at};
 ghost use Rattle.export_versions.specs.Answers.{version_index, no_version, version_answer, versym_answer, version_of_answer};
 
-use endian::refusals::UNKNOWN_KIND;
-use export::kinds::{is_kind, order_of, unless_long};
+use endian::refusals::Refusal;
+use export::kinds::known_order;
 use symbol::table::SymbolIndex;
 use version::index::VersionIndex;
-use version::table::{EntryAt, VersymAt};
+use version::store::Version;
+use version::table::{Versym, entry, version_of};
 
 // What stands behind a version index: special is 1 for the indices 0 and 1, which name no version.
 #[repr(C)]
@@ -49,12 +50,12 @@ pub(crate) fn no_version(refusal: u32, special: u32) -> VersionAnswer
     }
 }
 
-pub(crate) fn version_answer(found: EntryAt) -> VersionAnswer
+pub(crate) fn version_answer(found: Result<Option<Version>, Refusal>) -> VersionAnswer
     ensures { result ≡ version_answer found }
 {
     match found {
-        EntryAt::Special => no_version(0, 1),
-        EntryAt::At(version) => VersionAnswer {
+        Ok(None) => no_version(0, 1),
+        Ok(Some(version)) => VersionAnswer {
             refusal: 0,
             special: 0,
             kind: version.kind,
@@ -64,7 +65,7 @@ pub(crate) fn version_answer(found: EntryAt) -> VersionAnswer
             file: version.file.start,
             file_length: version.file.len,
         },
-        EntryAt::Refused(refusal) => no_version(refusal.0, 0),
+        Err(refusal) => no_version(refusal.0, 0),
     }
 }
 
@@ -77,19 +78,19 @@ pub extern "C" fn fetulombo_version_entry(
 ) -> VersionAnswer
     ensures { result ≡ version_answer (entry_at store.now strings.now (version_index index)) }
 {
-    version_answer(version::table::entry(store, strings, VersionIndex(index)))
+    version_answer(entry(store, strings, VersionIndex(index)))
 }
 
-fn versym_answer(found: VersymAt) -> VersymAnswer
+fn versym_answer(found: Result<Versym, Refusal>) -> VersymAnswer
     ensures { result ≡ versym_answer found }
 {
     match found {
-        VersymAt::At(versym) => VersymAnswer {
+        Ok(versym) => VersymAnswer {
             refusal: 0,
             index: versym.index.0 as u64,
             hidden: versym.hidden as u64,
         },
-        VersymAt::Refused(refusal) => VersymAnswer {
+        Err(refusal) => VersymAnswer {
             refusal: refusal.0 as u64,
             index: 0,
             hidden: 0,
@@ -103,8 +104,7 @@ fn versym_answer(found: VersymAt) -> VersymAnswer
 pub extern "C" fn fetulombo_version_of(order: u8, versyms: &[u8], symbol: u32) -> VersymAnswer
     ensures { result ≡ version_of_answer order versyms.now symbol }
 {
-    if !is_kind(order) {
-        return versym_answer(VersymAt::Refused(unless_long(versyms, UNKNOWN_KIND)));
-    }
-    versym_answer(version::table::version_of(order_of(order), versyms, SymbolIndex(symbol)))
+    let symbol = SymbolIndex(symbol);
+    let found = known_order(order, &[versyms]).and_then(|order| version_of(order, versyms, symbol));
+    versym_answer(found)
 }

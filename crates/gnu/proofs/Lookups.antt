@@ -3,12 +3,9 @@
 --     InRange, start_range                        a start that is not 0 is a symbol of the table, with a value
 --     lookup_stops, _refuses, _nowhere, _walks    what the lookup gives
 -- Assumes nothing.
-use Prim.Native.Nat.{ℕ, ◌-◌, ◌%◌, ◌≤◌, ◌<◌}
-use mathlib.Core.Path.{◌≡◌, sym}
-use mathlib.Core.Bool.{Bool, true, false, not, ◌&&◌, and-false}
-use lib.Dec.{leb, eqb}
-use borrow.Author.Tests.{eqb-true, leb-true, eq-eqb, ne_eqb, le-leb, lt-leb}
-use Rattle.std.specs.Prelude.{Ok, Err}
+use Rattle.std.proofs.Common.{ℕ, ◌-◌, ◌%◌, ◌≤◌, ◌<◌, ◌≡◌, sym, Bool, true, false, not, ◌&&◌, leb, eqb, eqb-true, leb-true, eq-eqb, ne_eqb, le-leb, Ok, Err}
+use mathlib.Core.Bool.{and-false}
+use borrow.Author.Tests.{lt-leb}
 use Rattle.endian.specs.declared.refusals.Refusal.{Refusal}
 use Rattle.lookup.specs.Wanted.{missing, walk}
 use Rattle.lookup.proofs.Picking.{by-test, and_left, and_right}

@@ -2,9 +2,7 @@
 --     answer_none, answer_some    of 0, and of another number
 --     none_start, some_start      what an answer says of the start
 -- Assumes nothing.
-use Rattle.std.proofs.Common.{ℕ, ◌≡◌, Bool, true, false, cond, refl, sym, ap, ◌∙◌}
-use Rattle.std.specs.Prelude.{eqb, Option, Some, None}
-use borrow.Author.Tests.{eqb-true, eq-eqb, ne_eqb}
+use Rattle.std.proofs.Common.{ℕ, ◌≡◌, Bool, true, false, cond, refl, sym, ap, ◌∙◌, eqb, Option, Some, None, eqb-true, eq-eqb, ne_eqb}
 use Rattle.lookup.proofs.Picking.{by-test}
 use Rattle.gnu.specs.Start.{start_answer}
 

@@ -3,13 +3,9 @@
 --     find_one                              two lookups that each state a version and get one symbol asked for the same (demand 3,
 --                                           last sentence)
 -- Assumes nothing.
-use Prim.Native.Nat.{ℕ}
-use mathlib.Core.Path.{◌≡◌, ap}
-use mathlib.Core.Bool.{Bool, true, false, cond, ◌&&◌}
+use Rattle.std.proofs.Common.{ℕ, ◌≡◌, ap, Bool, true, false, cond, ◌&&◌, eqb, Result, Ok, Err}
 use mathlib.Core.Option.{Option, some, none}
-use lib.Dec.{eqb}
 use Rattle.symbol.specs.Table.{symbol_index}
-use Rattle.std.specs.Prelude.{Result, Ok, Err}
 use Rattle.endian.specs.declared.kinds.Class.{Class}
 use Rattle.endian.specs.declared.kinds.Order.{Order}
 use Rattle.endian.specs.declared.refusals.Refusal.{Refusal}

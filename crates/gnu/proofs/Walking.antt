@@ -5,13 +5,8 @@
 --     walk_from_on       it does neither
 --     walk_from_none     no pair is left
 -- Assumes nothing.
-use Prim.Native.Nat.{ℕ, suc, ◌+◌, ◌-◌, ◌<◌}
-use mathlib.Core.Path.{◌≡◌, ap}
-use mathlib.Core.Bool.{Bool, true, false}
-use mathlib.Core.List.{List}
-use native.Mathlib.Nat.{zero-add, add-zero, sub_self}
-use native.Mathlib.Omega.{arith}
-use lib.ListN.{length}
+use Rattle.std.proofs.Common.{ℕ, suc, ◌+◌, ◌-◌, ◌<◌, ◌≡◌, ap, Bool, true, false, List, zero-add, add-zero, arith, length}
+use native.Mathlib.Nat.{sub_self}
 use Rattle.symbol.specs.Table.{symbol_index}
 use Rattle.lookup.specs.declared.Lookup.{Lookup}
 use Rattle.lookup.specs.Pick.{from, first_of, up_to}

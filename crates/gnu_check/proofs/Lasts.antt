@@ -3,15 +3,7 @@
 --     last_of_run_lem                 G10 may look at the next symbol alone
 --     longest_run, longest_run_lem    the longest run, or 0, is the longest chain
 -- Assumes nothing.
-use mathlib.Core.Path.{◌≡◌, refl, sym, ap, ◌∙◌}
-use mathlib.Core.Bool.{true, ◌&&◌}
-use mathlib.Core.List.{List, [], ◌∷◌, map}
-use Prim.Native.Nat.{ℕ, suc, ◌+◌, ◌-◌, ◌≤◌, ◌<◌}
-use native.Mathlib.Omega.{arith}
-use native.Mathlib.Nat.{mod-lt, le_antisymm}
-use lib.Dec.{ltb}
-use lib.ListN.{length}
-use borrow.Author.Tests.{eqb-true, eq-eqb, ltb-true, ltb-false, lt-ltb}
+use Rattle.std.proofs.Common.{◌≡◌, refl, sym, ap, ◌∙◌, true, ◌&&◌, List, [], ◌∷◌, map, ℕ, suc, ◌+◌, ◌-◌, ◌≤◌, ◌<◌, arith, mod-lt, le_antisymm, ltb, length, eqb-true, eq-eqb, ltb-true, ltb-false, lt-ltb}
 use Rattle.lookup.specs.Pick.{from, largest}
 use Rattle.gnu_table.specs.Table.{GnuTable, hashed}
 use Rattle.gnu_rules.specs.Rules.{gnu_hash_at, gnu_bucket_of, in_bucket, members, is_last, holds, longest, bucket_right}

@@ -5,12 +5,9 @@
 --     lesser_least      of either of two facts it is the lesser
 --     first_of_least    the first of the numbers below n that passes is the least
 -- Assumes nothing.
-use mathlib.Core.Logic.{◌⊎◌, inl, inr, ⊎_elim}
 use native.Mathlib.Nat.{min-eq_left, min-eq_right}
-use Rattle.std.proofs.Common.{◌≡◌, ℕ, ◌≤◌, ◌<◌, Bool, true, false, leb, Option, Some, None, refl, sym, ap, ◌∙◌, arith}
+use Rattle.std.proofs.Common.{◌≡◌, ℕ, ◌≤◌, ◌<◌, Bool, true, false, leb, Option, Some, None, refl, sym, ap, ◌∙◌, arith, ◌⊎◌, inl, inr, ⊎_elim, true≢false, leb-true, leb-false}
 use Rattle.std.proofs.Math.Option as Math
-use mathlib.Core.Bool.{true≢false}
-use borrow.Author.Tests.{leb-true, leb-false}
 use Rattle.lookup.specs.Pick.{from, first_of}
 use Rattle.lookup.specs.Search.{answered}
 use Rattle.gnu_check_buckets.specs.Runs.{lesser}

@@ -1,11 +1,8 @@
 -- After G7, the value of a symbol rules out no bucket that the symbol is in: `stray` is then `plain_stray`.
 -- Assumes nothing.
-use Prim.Native.Nat.{ℕ, ◌+◌, ◌*◌, ◌/◌, ◌%◌, ◌≤◌, ◌<◌}
-use mathlib.Core.Path.{◌≡◌, sym, ap, ◌∙◌}
-use mathlib.Core.Bool.{true, false, not, ◌&&◌, or-true, and-false, true≢false}
-use native.Mathlib.Omega.{arith}
-use lib.Dec.{leb, ltb, eqb}
-use borrow.Author.Tests.{leb-true, ltb-true, eqb-true, eqb-false, eq-eqb}
+use Rattle.std.proofs.Common.{ℕ, ◌+◌, ◌*◌, ◌/◌, ◌%◌, ◌≤◌, ◌<◌, ◌≡◌, sym, ap, ◌∙◌, true, false, not, ◌&&◌, true≢false, arith, leb, ltb, eqb, leb-true, ltb-true, eqb-true, eq-eqb}
+use mathlib.Core.Bool.{or-true, and-false}
+use borrow.Author.Tests.{eqb-false}
 use Rattle.lookup.proofs.Picking.{by-test, and_left, and_right}
 use Rattle.gnu_table.specs.Table.{GnuTable, value_of}
 use Rattle.gnu_rules.specs.Rules.{gnu_hash_at, gnu_bucket_of, in_bucket, value_is_hash}

@@ -3,17 +3,12 @@
 --     Amiss              a misplaced symbol of a bucket
 --     least_wrong_lem    after G7, `least_wrong` is the lowest bucket that breaks G9
 -- Assumes nothing.
-use mathlib.Core.Path.{◌≡◌, refl, sym, ap, ◌∙◌, subst}
-use mathlib.Core.Bool.{Bool, true, false, not, cond, ◌&&◌, true≢false, false≢true}
-use mathlib.Core.Logic.{◌⊎◌, inl, inr, ⊎_elim}
-use Rattle.std.specs.Prelude.{Option, Some, None}
+use Rattle.std.proofs.Common.{◌≡◌, refl, sym, ap, ◌∙◌, subst, Bool, true, false, not, cond, ◌&&◌, true≢false, ◌⊎◌, inl, inr, ⊎_elim, Option, Some, None, ℕ, zero, suc, ◌+◌, ◌-◌, ◌≤◌, ◌<◌, arith, le_refl, mod-lt, eq-or-lt_of_le, eqb-true, eq-eqb}
+use mathlib.Core.Bool.{false≢true}
 use Rattle.std.proofs.Math.Option as Math
 use native.Mathlib.Nat.{sub-zero}
 use Rattle.lookup.specs.Search.{answered, first_from}
-use Prim.Native.Nat.{ℕ, zero, suc, ◌+◌, ◌-◌, ◌≤◌, ◌<◌}
-use native.Mathlib.Omega.{arith}
-use native.Mathlib.Nat.{le_refl, mod-lt, eq-or-lt_of_le}
-use borrow.Author.Tests.{eqb-true, eq-eqb, not-true}
+use borrow.Author.Tests.{not-true}
 use Rattle.lookup.specs.Pick.{from, first_of}
 use Rattle.gnu_table.specs.Table.{GnuTable, hashed}
 use Rattle.gnu_rules.specs.Rules.{gnu_hash_at, gnu_bucket_of, in_bucket, value_is_hash, lowest, bucket_right}

@@ -1,10 +1,7 @@
 -- Whether a bucket is stray, a law for each answer, under the tests before it. Assumes nothing.
 --     stray_zero, stray_below, stray_past, stray_ruled_out, stray_other, stray_first, stray_before    what `stray` is
-use Prim.Native.Nat.{ℕ, ◌-◌, ◌≤◌, ◌<◌}
-use mathlib.Core.Path.{◌≡◌, refl}
-use mathlib.Core.Bool.{Bool, true, false, not}
-use lib.Dec.{eqb}
-use borrow.Author.Tests.{eq-eqb, ne_eqb, le-leb, lt-leb, lt-ltb, le-ltb}
+use Rattle.std.proofs.Common.{ℕ, ◌-◌, ◌≤◌, ◌<◌, ◌≡◌, refl, Bool, true, false, not, eqb, eq-eqb, ne_eqb, le-leb, lt-ltb, le-ltb}
+use borrow.Author.Tests.{lt-leb}
 use Rattle.gnu_table.specs.Table.{GnuTable, value_of}
 use Rattle.gnu_rules.specs.Rules.{gnu_bucket_of}
 use Rattle.gnu_check_buckets.specs.Runs.{may_be, stray}

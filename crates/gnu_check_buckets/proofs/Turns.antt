@@ -3,10 +3,8 @@
 --                 the answer
 --     passing_start, passing_next, passing_end
 -- Assumes nothing.
-use mathlib.Core.Logic.{◌⊎◌, inl, inr}
-use native.Mathlib.Nat.{sub_self, le_refl}
-use native.Mathlib.Numerals.{add-one}
-use Rattle.std.proofs.Common.{◌≡◌, ℕ, zero, suc, ◌+◌, ◌-◌, ◌≤◌, ◌<◌, min, Bool, true, false, cond, not, eqb, Option, Some, None, refl, sym, ap, ◌∙◌, arith}
+use native.Mathlib.Nat.{sub_self}
+use Rattle.std.proofs.Common.{◌≡◌, ℕ, zero, suc, ◌+◌, ◌-◌, ◌≤◌, ◌<◌, min, Bool, true, false, cond, not, eqb, Option, Some, None, refl, sym, ap, ◌∙◌, arith, ◌⊎◌, inl, inr, le_refl, add-one}
 use Rattle.lookup.proofs.Picking.{by-test, either}
 use Rattle.gnu_table.specs.Table.{GnuTable}
 use Rattle.gnu_rules.specs.Rules.{gnu_bucket_of}

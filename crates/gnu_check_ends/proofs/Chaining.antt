@@ -2,13 +2,8 @@
 --     Chaining    at symbol i: where its chain starts, and that the rest gives the answer
 --     chaining_start, chaining_next, chaining_end
 -- Assumes nothing.
-use Prim.Native.Nat.{ℕ, zero, suc, ◌+◌, ◌-◌, ◌≤◌, ◌<◌, max}
-use mathlib.Core.Path.{◌≡◌, sym, ap, ◌∙◌}
-use mathlib.Core.Bool.{cond}
-use mathlib.Core.List.{map}
-use native.Mathlib.Nat.{sub_self, le_refl}
-use native.Mathlib.Numerals.{add-one}
-use native.Mathlib.Omega.{arith}
+use Rattle.std.proofs.Common.{ℕ, zero, suc, ◌+◌, ◌-◌, ◌≤◌, ◌<◌, max, ◌≡◌, sym, ap, ◌∙◌, cond, map, le_refl, add-one, arith}
+use native.Mathlib.Nat.{sub_self}
 use Rattle.lookup.specs.Pick.{from, largest}
 use Rattle.lookup.proofs.Picking.{by-test}
 use Rattle.gnu_table.specs.Table.{odd}

@@ -4,23 +4,15 @@
 --     hash_at_long                           strings that are too long
 --     hash_in_at, hash_in_none               the hash of a symbol's name: by its record, and where there is none
 -- Assumes nothing.
-use Prim.Native.Nat.{ℕ, suc, ◌+◌, ◌≤◌, ◌<◌}
-use mathlib.Core.Path.{◌≡◌, refl, ap}
-use mathlib.Core.Bool.{Bool, true, false, cond}
-use mathlib.Core.List.{List, [], ◌∷◌, foldl}
+use Rattle.std.proofs.Common.{ℕ, suc, ◌+◌, ◌≤◌, ◌<◌, ◌≡◌, refl, ap, Bool, true, false, cond, List, [], ◌∷◌, add-one, arith, length, get_or, take, drop, drop_of_length-le, drop-cons, ne_eqb, lt-ltb, le-ltb, Result, Ok, Err}
+use mathlib.Core.List.{foldl}
 use mathlib.Core.Option
-use native.Mathlib.Numerals.{add-one}
-use native.Mathlib.Omega.{arith}
 use lib.Dec.{leb-suc-suc}
-use lib.ListN.{length, get_or, take, drop, drop_of_length-le}
-use lib.Seq.{drop-cons}
-use borrow.Author.Tests.{ne_eqb, lt-ltb, le-ltb}
 use Rattle.endian.specs.declared.kinds.Class.{Class}
 use Rattle.endian.specs.declared.kinds.Order.{Order}
 use Rattle.endian.specs.declared.refusals.Refusal.{Refusal}
 use Rattle.endian.specs.First.{first, is_zero, readable}
 use Rattle.endian.specs.Refusals.{limit, no_string}
-use Rattle.std.specs.Prelude.{Result, Ok, Err}
 use Rattle.strings.specs.declared.Place.{Place}
 use Rattle.symbol_entry.specs.declared.Symbol.{Symbol}
 use Rattle.symbol.specs.Table.{symbol_at, symbol_index}

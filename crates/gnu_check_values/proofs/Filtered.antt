@@ -1,7 +1,6 @@
 -- Both bloom bits of a symbol are set exactly if the bloom filter lets its hash pass, where there are bloom words and the
 -- shift is no more than 31. Assumes nothing.
-use Rattle.std.proofs.Common.{◌≡◌, ℕ, ◌≤◌, Bool, true, false, cond, not, ◌&&◌, Result, Ok, refl, arith}
-use borrow.Author.Tests.{ne_eqb, le-ltb}
+use Rattle.std.proofs.Common.{◌≡◌, ℕ, ◌≤◌, Bool, true, false, cond, not, ◌&&◌, Result, Ok, refl, arith, ne_eqb, le-ltb}
 use Rattle.endian.specs.declared.refusals.Refusal.{Refusal}
 use Rattle.gnu_table.specs.Table.{GnuTable, bloom_first, bloom_second, bloom_filter}
 use Rattle.gnu_rules.specs.Rules.{gnu_hash_at, bloom_bits_set}

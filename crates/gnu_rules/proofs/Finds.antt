@@ -2,16 +2,8 @@
 -- the hash holds exactly the symbols v, v + 1, .., v + k (G9), and the chain from v ends at v + k (G10): the chain is the
 -- bucket. A wanted symbol is in that bucket, its value compares equal (G7) and its bloom bits are set (G8).
 -- Assumes nothing.
-use Prim.Native.Nat.{ℕ, suc, ◌+◌, ◌-◌, ◌%◌, ◌≤◌, ◌<◌, min}
-use mathlib.Core.Path.{◌≡◌, refl, sym, ap, ◌∙◌}
-use mathlib.Core.Bool.{Bool, true, false, cond, ◌&&◌}
-use mathlib.Core.List.{List, [], ◌∷◌}
+use Rattle.std.proofs.Common.{ℕ, suc, ◌+◌, ◌-◌, ◌%◌, ◌≤◌, ◌<◌, min, ◌≡◌, refl, sym, ap, ◌∙◌, Bool, true, false, cond, ◌&&◌, List, [], ◌∷◌, arith, mod-lt, length, eqb-true, eq-eqb, ne_eqb, le-leb, le-ltb, Result, Ok}
 use mathlib.Core.Option.{some, none}
-use native.Mathlib.Omega.{arith}
-use native.Mathlib.Nat.{mod-lt}
-use lib.ListN.{length}
-use borrow.Author.Tests.{eqb-true, eq-eqb, ne_eqb, le-leb, le-ltb}
-use Rattle.std.specs.Prelude.{Result, Ok}
 use Rattle.endian.specs.declared.refusals.Refusal.{Refusal}
 use Rattle.name_hash.specs.Hash.{gnu_hash}
 use Rattle.lookup.specs.declared.Lookup.{Lookup}

@@ -2,8 +2,8 @@
 --     fifth_broken    G5 is broken
 --     none_broken     none is
 -- Assumes nothing.
-use Rattle.std.proofs.Common.{◌≡◌, ℕ, ◌-◌, ◌^◌, ◌≤◌, ◌<◌, Bool, true, ◌==◌, count_ones, Some, None, sym, ◌∙◌}
-use borrow.Author.Tests.{le-leb, lt-leb}
+use Rattle.std.proofs.Common.{◌≡◌, ℕ, ◌-◌, ◌^◌, ◌≤◌, ◌<◌, Bool, true, ◌==◌, count_ones, Some, None, sym, ◌∙◌, le-leb}
+use borrow.Author.Tests.{lt-leb}
 use Rattle.gnu_table.specs.declared.header.Layout.{Layout}
 use Rattle.gnu_rules.specs.HeaderRules.{broken_header}
 use Rattle.gnu_rules.proofs.Powers.{power_is}

@@ -3,20 +3,12 @@
 --     whole_none, lowest_none    what it says that a rule is broken nowhere
 --     accepted_longest           the number that is given is the longest chain
 --     rules                      an accepted table keeps every rule
-use Prim.Native.Nat.{ℕ, suc, ◌+◌, ◌-◌, ◌^◌, ◌≤◌, ◌<◌}
-use mathlib.Core.Path.{◌≡◌, refl}
-use mathlib.Core.Bool.{Bool, true, false, not}
-use mathlib.Core.List.{List, [], ◌∷◌}
+use Rattle.std.proofs.Common.{ℕ, suc, ◌+◌, ◌-◌, ◌^◌, ◌≤◌, ◌<◌, ◌≡◌, refl, Bool, true, false, not, List, [], ◌∷◌, arith, leb, eqb, pow_pos, leb-true, eqb-true, Ok}
 use mathlib.Core.Option.{Option, some, none, some-ne-none}
-use native.Mathlib.Omega.{arith}
-use lib.Dec.{leb, eqb}
-use lib.Pow.{pow_pos}
-use borrow.Author.Tests.{leb-true, eqb-true}
 use Rattle.strings.proofs.Meaning.{false_true}
 use Rattle.lookup.specs.Pick.{from, first_of, is_none}
 use Rattle.lookup.proofs.Picking.{All, all_map, from_all, none_first_of, first_of_passes, and_left, and_right, not_none}
 use Rattle.gnu_table.specs.Table.{GnuTable, hashed}
-use Rattle.std.specs.Prelude.{Ok}
 use Rattle.gnu_rules.specs.Rules.{verdict, longest, gnu_table_check, findings, whole, lowest, power_of_two, base_within, some_bucket, shift_within, enough_values, name_readable, value_is_hash, bloom_bits_set, bucket_right, ends_at_last}
 
 pub record Rules (t : GnuTable) : Type 0 where

@@ -5,14 +5,8 @@
 --     inside                      of symbols that are a run, v to v + k: each number of it is a hashed symbol of the bucket
 --     outside                     each hashed symbol of the bucket is in it
 --     last, not_last              its end is the bucket's last symbol, and no number before it is
-use Prim.Native.Nat.{ℕ, suc, ◌+◌, ◌-◌, ◌≤◌, ◌<◌}
-use mathlib.Core.Path.{◌≡◌, refl, ap, ◌∙◌, subst, subst⁻¹}
-use mathlib.Core.Bool.{true, false}
-use mathlib.Core.List.{List, [], ◌∷◌}
-use native.Mathlib.Omega.{arith}
-use lib.Dec.{eqb}
-use lib.ListN.{length}
-use borrow.Author.Tests.{eqb-true, eq-eqb}
+use Rattle.std.proofs.Common.{ℕ, suc, ◌+◌, ◌-◌, ◌≤◌, ◌<◌, ◌≡◌, refl, ap, ◌∙◌, subst, true, false, List, [], ◌∷◌, arith, eqb, length, eqb-true, eq-eqb}
+use mathlib.Core.Path.{subst⁻¹}
 use Rattle.endian.specs.First.{same}
 use Rattle.strings.proofs.Meaning.{same_refl, same_true}
 use Rattle.lookup.specs.Pick.{from}

@@ -1,12 +1,11 @@
 -- The library's test for a power of two, by the bits of a number of 32 bits, is G2's.
 --     power_is    that
 -- Assumes nothing.
-use native.Mathlib.Nat.{pow-suc}
 use lib.Count.{ones_step}
-use Rattle.std.proofs.Common.{◌≡◌, ℕ, zero, suc, ◌+◌, ◌*◌, ◌/◌, ◌%◌, ◌^◌, ◌≤◌, ◌<◌, Bool, true, false, not, ◌==◌, eqb, count_ones, refl, sym, ap, ◌∙◌, arith}
+use Rattle.std.proofs.Common.{◌≡◌, ℕ, zero, suc, ◌+◌, ◌*◌, ◌/◌, ◌%◌, ◌^◌, ◌≤◌, ◌<◌, Bool, true, false, not, ◌==◌, eqb, count_ones, refl, sym, ap, ◌∙◌, arith, pow-suc, eqb-true, eq-eqb}
 use Rattle.std.proofs.Math.Option.{Option, some, none}
 use Rattle.std.proofs.lemmas.Nat.{zero_from_ones, ones_le_self}
-use borrow.Author.Tests.{eqb-true, eqb-false, eq-eqb}
+use borrow.Author.Tests.{eqb-false}
 use Rattle.strings.proofs.Meaning.{false_true}
 use Rattle.lookup.specs.Pick.{from, first_of, is_none}
 use Rattle.lookup.proofs.Picking.{by-test, from_all, none_first_of, first_of_passes, test_ext}

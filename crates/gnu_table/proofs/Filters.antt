@@ -1,11 +1,7 @@
 -- What the bloom filter says of a hash, a law for each answer, under the tests before it.
 --     filter_none, _first, _shift, _is    what `bloom_filter` is
 -- Assumes nothing.
-use Prim.Native.Nat.{ℕ, ◌≤◌, ◌<◌}
-use mathlib.Core.Path.{◌≡◌, refl}
-use mathlib.Core.Bool.{Bool, true, false, cond, not}
-use borrow.Author.Tests.{eq-eqb, ne_eqb, lt-ltb, le-ltb}
-use Rattle.std.specs.Prelude.{Result, Ok, Err}
+use Rattle.std.proofs.Common.{ℕ, ◌≤◌, ◌<◌, ◌≡◌, refl, Bool, true, false, cond, not, eq-eqb, ne_eqb, lt-ltb, le-ltb, Result, Ok, Err}
 use Rattle.endian.specs.declared.refusals.Refusal.{Refusal}
 use Rattle.endian.specs.Refusals.{bad_bloom_shift}
 use Rattle.gnu_table.specs.Table.{GnuTable, bloom_first, bloom_second, bloom_filter}

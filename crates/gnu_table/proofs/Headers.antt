@@ -1,11 +1,6 @@
 -- The header of a table, a law for each answer, under the tests before it. Assumes nothing.
 --     header_long, header_short, header_bloom, header_buckets, header_is    what `gnu_header` is
-use Prim.Native.Nat.{ℕ, ◌-◌, ◌/◌, ◌≤◌, ◌<◌}
-use mathlib.Core.Path.{◌≡◌, sym}
-use mathlib.Core.List.{List}
-use borrow.Author.Tests.{lt-ltb, le-ltb}
-use lib.ListN.{length}
-use Rattle.std.specs.Prelude.{Ok, Err}
+use Rattle.std.proofs.Common.{ℕ, ◌-◌, ◌/◌, ◌≤◌, ◌<◌, ◌≡◌, sym, List, lt-ltb, le-ltb, length, Ok, Err}
 use Rattle.endian.specs.declared.kinds.Class.{Class}
 use Rattle.endian.specs.declared.kinds.Order.{Order}
 use Rattle.endian.specs.Refusals.{limit, too_long, bad_gnu_header, bad_gnu_bloom, bad_gnu_buckets}

@@ -3,13 +3,8 @@
 --     wanted_one                   two that are asked for, each with a version, and want one symbol, are the same
 --     walk_wanted                  what a walk finds is a match
 -- Assumes nothing.
-use Prim.Native.Nat.{ℕ}
-use mathlib.Core.Path.{◌≡◌, refl, sym, ap, ◌∙◌}
-use mathlib.Core.Bool.{Bool, true}
-use mathlib.Core.List.{List}
+use Rattle.std.proofs.Common.{ℕ, ◌≡◌, refl, sym, ap, ◌∙◌, Bool, true, List, length, Some}
 use mathlib.Core.Option.{Option, some, none}
-use lib.ListN.{length}
-use Rattle.std.specs.Prelude.{Some}
 use Rattle.symbol.specs.Table.{symbol_index}
 use Rattle.endian.specs.declared.kinds.Class.{Class}
 use Rattle.endian.specs.declared.kinds.Order.{Order}

@@ -1,19 +1,12 @@
 -- The name of a symbol, by the record that stands at its number. Assumes nothing.
 --     name_at, name_none    its bytes: those of the record's string, and none where there is no record
 --     named_at_lem          whether it is a name: what the record's string says, and no where there is no record
-use Prim.Native.Nat.{ℕ}
-use mathlib.Core.Path.{◌≡◌, refl, sym, ap, ◌∙◌}
-use mathlib.Core.Bool.{Bool, false}
-use mathlib.Core.List.{List}
+use Rattle.std.proofs.Common.{ℕ, ◌≡◌, refl, sym, ap, ◌∙◌, Bool, false, List, ltb, length, ltb-true, ltb-false, Result, Ok, Err}
 use mathlib.Core.Option.{none}
-use lib.Dec.{ltb}
-use lib.ListN.{length}
-use borrow.Author.Tests.{ltb-true, ltb-false}
 use Rattle.endian.specs.declared.kinds.Class.{Class}
 use Rattle.endian.specs.declared.kinds.Order.{Order}
 use Rattle.endian.specs.declared.refusals.Refusal.{Refusal}
 use Rattle.endian.specs.Refusals.{limit}
-use Rattle.std.specs.Prelude.{Result, Ok, Err}
 use Rattle.strings.specs.declared.Place.{Place}
 use Rattle.strings.specs.Strings.{is_name, string_at, string_equals}
 use Rattle.symbol_entry.specs.declared.Symbol.{Symbol}

@@ -8,16 +8,9 @@
 --     Lowest, first_of_lowest                                                                        the first of a run is its lowest
 --     length_up_to, up_to_from                                                                       the front up to the first
 -- Assumes nothing.
-use mathlib.Core.Path.{◌≡◌, refl, sym, ap, ◌∙◌, subst}
-use mathlib.Core.Bool.{Bool, true, false, not, ◌&&◌, beq, true≢false}
-use mathlib.Core.List.{List, [], ◌∷◌, map, ◌++◌}
+use Rattle.std.proofs.Common.{◌≡◌, refl, sym, ap, ◌∙◌, subst, Bool, true, false, not, ◌&&◌, true≢false, List, [], ◌∷◌, map, ◌++◌, ℕ, zero, suc, ◌+◌, ◌-◌, ◌≤◌, ◌<◌, add-one, arith, add-zero, add-suc, le_refl, suc-add, zero-add, eq-or-lt_of_le, ◌⊎◌, inl, inr, ⊎_elim, length}
+use mathlib.Core.Bool.{beq}
 use mathlib.Core.Option.{some, none, some-ne-none, none-ne-some}
-use Prim.Native.Nat.{ℕ, zero, suc, ◌+◌, ◌-◌, ◌≤◌, ◌<◌}
-use native.Mathlib.Numerals.{add-one}
-use native.Mathlib.Omega.{arith}
-use native.Mathlib.Nat.{add-zero, add-suc, le_refl, suc-add, zero-add, eq-or-lt_of_le}
-use mathlib.Core.Logic.{◌⊎◌, inl, inr, ⊎_elim}
-use lib.ListN.{length}
 use Rattle.lookup.specs.Pick.{from, select, first_of, up_to, largest}
 
 -- ---- tests

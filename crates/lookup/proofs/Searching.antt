@@ -3,9 +3,7 @@
 --     first_some, first_none    what the answer says of the search
 -- Assumes nothing.
 use denote.Param.Members.{Mut}
-use mathlib.Core.Logic.{⊎_elim}
-use native.Mathlib.Nat.{le_refl, eq-or-lt_of_le}
-use Rattle.std.proofs.Common.{◌≡◌, ℕ, zero, suc, ◌+◌, ◌-◌, ◌≤◌, ◌<◌, Bool, true, false, List, Option, Some, None, MatchOption, Bor, refl, sym, ap, ◌∙◌, arith}
+use Rattle.std.proofs.Common.{◌≡◌, ℕ, zero, suc, ◌+◌, ◌-◌, ◌≤◌, ◌<◌, Bool, true, false, List, Option, Some, None, MatchOption, Bor, refl, sym, ap, ◌∙◌, arith, ⊎_elim, le_refl, eq-or-lt_of_le}
 use Rattle.std.proofs.Math.Option as Math
 use Rattle.std.specs.Prelude.{⊤}
 use Rattle.std.specs.declared.ops.Range.{Range}

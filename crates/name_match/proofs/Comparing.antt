@@ -7,17 +7,9 @@
 --     same_none, _next, _join                      the bytes that were seen to be the same grow
 --     fewer, missed                                of the counted bytes: not all are; the last one is not, or one before it
 -- Assumes nothing.
-use Prim.Native.Nat.{ℕ, zero, suc, ◌<◌, ◌≤◌, ◌+◌}
-use mathlib.Core.Path.{◌≡◌, refl, ◌∙◌}
-use mathlib.Core.Bool.{Bool, true, false, ◌&&◌}
-use mathlib.Core.List.{List, [], ◌∷◌}
-use native.Mathlib.Omega.{arith}
-use native.Mathlib.Numerals.{add-one}
-use native.Mathlib.Nat.{add-suc, add-zero, le_refl}
-use lib.Dec.{eqb, ltb, eqb-suc-zero, leb-suc-suc}
-use lib.ListN.{length, drop, get_or, drop_of_length-le}
-use lib.Seq.{drop-cons}
-use borrow.Author.Tests.{ltb-true, ltb-false, lt-ltb, eq-eqb, ne_eqb, eqb-true, eqb-false}
+use Rattle.std.proofs.Common.{ℕ, zero, suc, ◌<◌, ◌≤◌, ◌+◌, ◌≡◌, refl, ◌∙◌, Bool, true, false, ◌&&◌, List, [], ◌∷◌, arith, add-one, add-suc, add-zero, le_refl, eqb, ltb, length, drop, get_or, drop_of_length-le, drop-cons, ltb-true, ltb-false, lt-ltb, eq-eqb, ne_eqb, eqb-true}
+use lib.Dec.{eqb-suc-zero, leb-suc-suc}
+use borrow.Author.Tests.{eqb-false}
 use Rattle.endian.specs.First.{first, readable}
 use Rattle.name_match.specs.Reads.{text, reads}
 use Rattle.name_match.specs.Same.{Same, SameFrom}

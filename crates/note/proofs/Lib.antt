@@ -1,4 +1,4 @@
--- `Aligned`: the aligned end of a part. `Steps`: each answer of a step, by its tests. `Walking`: stepping gives the list of notes.
+-- `Aligned`: the aligned end of a part. `Steps`: what a step finds by its first tests. `Walking`: stepping gives the list of notes.
 pub mod Aligned
 mod Steps
 pub mod Walking

@@ -8,20 +8,18 @@
 --     descriptor_from, descriptor_end    where the descriptor starts, at the aligned end of the name, and where it ends
 --     note_next                          where the next note starts, at the aligned end of the descriptor
 --     note_of                            the note at a reader's place; its type is the header's third field
---     note_step, reader_after            what a step finds, and the reader that stands after it
+--     note_step                          what a step finds
+--     after_found, reader_after          the reader that stands after a step, by what it found
 -- Assumes nothing.
-use Rattle.std.specs.Prelude.{ℕ, ◌+◌, ◌*◌, ◌/◌, cond, List, eqb, leb, ltb, length}
+use Rattle.std.specs.Prelude.{ℕ, ◌+◌, ◌*◌, ◌/◌, cond, List, eqb, leb, ltb, length, Result, Ok, Err, Option, Some, None}
 use Rattle.endian.specs.declared.kinds.Order.{Order}
+use Rattle.endian.specs.declared.refusals.Refusal.{Refusal}
 use Rattle.endian.specs.Refusals.{limit, too_long, note_short, bad_note_name, bad_note_descriptor, bad_note_alignment}
 use Rattle.endian.specs.Word.{field_at}
 use Rattle.note.specs.declared.reader.Align.{Align}
 use Rattle.note.specs.declared.reader.Align.TheVariants.{Four, Eight}
 use Rattle.note.specs.declared.reader.NoteReader.{NoteReader}
-use Rattle.note.specs.declared.reader.ReaderFor.{ReaderFor}
-use Rattle.note.specs.declared.reader.ReaderFor.TheVariants.{Reader, Refused as Reader-as-Refused}
 use Rattle.note.specs.declared.reader.Note.{Note}
-use Rattle.note.specs.declared.reader.NoteStep.{NoteStep}
-use Rattle.note.specs.declared.reader.NoteStep.TheVariants.{Note as Step-as-Note, End, Refused}
 
 abbrev pub align_size : Align → ℕ
 align_size Four = 4
@@ -32,11 +30,11 @@ aligned Four n = (n + 3) / 4 * 4
 aligned Eight n = (n + 7) / 8 * 8
 
 -- 0 to 4 counts as 4, 8 as 8, all else is refused
-abbrev pub reader_for : Order → ℕ → ReaderFor
+abbrev pub reader_for : Order → ℕ → Result NoteReader Refusal
 reader_for order n =
-    cond (leb n 4) (Reader (record { order = order; align = Four; at = 0 }))
-    (cond (eqb n 8) (Reader (record { order = order; align = Eight; at = 0 }))
-    (Reader-as-Refused bad_note_alignment))
+    cond (leb n 4) (Ok (record { order = order; align = Four; at = 0 }))
+    (cond (eqb n 8) (Ok (record { order = order; align = Eight; at = 0 }))
+    (Err bad_note_alignment))
 
 abbrev pub to : NoteReader → ℕ → NoteReader
 to reader place = record { order = reader.order; align = reader.align; at = place }
@@ -68,17 +66,20 @@ note_of reader s = record {
   descsz = descsz reader s;
 }
 
--- a refused reader stands at the end of the bytes
-unfoldable pub note_step : NoteReader → List ℕ → NoteStep
+unfoldable pub note_step : NoteReader → List ℕ → Result (Option Note) Refusal
 note_step reader s =
-    cond (ltb limit (length s)) (Refused too_long (to reader (length s)))
-    (cond (leb (length s) reader.at) (End reader)
-    (cond (ltb (length s) (reader.at + 12)) (Refused note_short (to reader (length s)))
-    (cond (ltb (length s) (reader.at + name_end reader s)) (Refused bad_note_name (to reader (length s)))
-    (cond (ltb (length s) (reader.at + descriptor_end reader s)) (Refused bad_note_descriptor (to reader (length s)))
-    (Step-as-Note (note_of reader s) (to reader (reader.at + note_next reader s)))))))
+    cond (ltb limit (length s)) (Err too_long)
+    (cond (leb (length s) reader.at) (Ok None)
+    (cond (ltb (length s) (reader.at + 12)) (Err note_short)
+    (cond (ltb (length s) (reader.at + name_end reader s)) (Err bad_note_name)
+    (cond (ltb (length s) (reader.at + descriptor_end reader s)) (Err bad_note_descriptor)
+    (Ok (Some (note_of reader s)))))))
 
-abbrev pub reader_after : NoteStep → NoteReader
-reader_after (Step-as-Note note next) = next
-reader_after (End next) = next
-reader_after (Refused refusal next) = next
+-- a refused reader stands at the end of the bytes
+abbrev pub after_found : NoteReader → List ℕ → Result (Option Note) Refusal → NoteReader
+after_found reader s (Ok (Some note)) = to reader (reader.at + note_next reader s)
+after_found reader s (Ok None) = reader
+after_found reader s (Err refusal) = to reader (length s)
+
+abbrev pub reader_after : NoteReader → List ℕ → NoteReader
+reader_after reader s = after_found reader s (note_step reader s)

@@ -8,17 +8,13 @@
 --     notes_of, section_notes    the list of a section, by the alignment's number
 --     Stepping                   stepping from a reader on gives this list
 -- Assumes nothing.
-use Rattle.std.specs.Prelude.{ℕ, zero, suc, ◌≡◌, cond, List, [], ◌∷◌, ltb, length}
+use Rattle.std.specs.Prelude.{ℕ, zero, suc, ◌≡◌, cond, List, [], ◌∷◌, ltb, length, Result, Ok, Err, Option, Some, None}
 use Rattle.endian.specs.declared.kinds.Order.{Order}
 use Rattle.endian.specs.declared.refusals.Refusal.{Refusal}
 use Rattle.endian.specs.Refusals.{limit, too_long}
-use Rattle.note.specs.Notes.{note_step, reader_for}
+use Rattle.note.specs.Notes.{note_step, reader_after, reader_for}
 use Rattle.note.specs.declared.reader.NoteReader.{NoteReader}
-use Rattle.note.specs.declared.reader.ReaderFor.{ReaderFor}
-use Rattle.note.specs.declared.reader.ReaderFor.TheVariants.{Reader, Refused as Reader-as-Refused}
 use Rattle.note.specs.declared.reader.Note.{Note}
-use Rattle.note.specs.declared.reader.NoteStep.{NoteStep}
-use Rattle.note.specs.declared.reader.NoteStep.TheVariants.{Note as Step-as-Note, End, Refused}
 
 pub data Ending : Type 0 where
   ended : Ending
@@ -34,28 +30,28 @@ none how = record { notes = []; ending = how }
 abbrev pub onto : Note → NoteList → NoteList
 onto note rest = record { notes = note ∷ rest.notes; ending = rest.ending }
 
-abbrev pub after_step : (NoteReader → NoteList) → NoteStep → NoteList
-after_step rest (Step-as-Note note next) = onto note (rest next)
-after_step rest (End next) = none ended
-after_step rest (Refused refusal next) = none (stopped refusal)
+abbrev pub after_step : NoteList → Result (Option Note) Refusal → NoteList
+after_step rest (Ok (Some note)) = onto note rest
+after_step rest (Ok None) = none ended
+after_step rest (Err refusal) = none (stopped refusal)
 
 unfoldable pub notes_within : (steps : ℕ) → List ℕ → NoteReader → NoteList
 notes_within zero s reader = none ended
-notes_within (suc steps) s reader = after_step (notes_within steps s) (note_step reader s)
+notes_within (suc steps) s reader = after_step (notes_within steps s (reader_after reader s)) (note_step reader s)
 
 unfoldable pub notes_from : List ℕ → NoteReader → NoteList
 notes_from s reader = notes_within (suc (length s)) s reader
 
-abbrev pub notes_of : List ℕ → ReaderFor → NoteList
-notes_of s (Reader reader) = notes_from s reader
-notes_of s (Reader-as-Refused refusal) = none (stopped refusal)
+abbrev pub notes_of : List ℕ → Result NoteReader Refusal → NoteList
+notes_of s (Ok reader) = notes_from s reader
+notes_of s (Err refusal) = none (stopped refusal)
 
 abbrev pub section_notes : Order → (align : ℕ) → List ℕ → NoteList
 section_notes order align s = cond (ltb limit (length s)) (none (stopped too_long)) (notes_of s (reader_for order align))
 
 pub data Stepping (s : List ℕ) : NoteReader → NoteList → Type 0 where
-  ends : {reader next : NoteReader} → note_step reader s ≡ End next → Stepping s reader (none ended)
-  stops : {reader next : NoteReader} {refusal : Refusal} → note_step reader s ≡ Refused refusal next
+  ends : {reader : NoteReader} → note_step reader s ≡ Ok None → Stepping s reader (none ended)
+  stops : {reader : NoteReader} {refusal : Refusal} → note_step reader s ≡ Err refusal
       → Stepping s reader (none (stopped refusal))
-  goes : {reader next : NoteReader} {note : Note} {rest : NoteList} → note_step reader s ≡ Step-as-Note note next
-      → Stepping s next rest → Stepping s reader (onto note rest)
+  goes : {reader : NoteReader} {note : Note} {rest : NoteList} → note_step reader s ≡ Ok (Some note)
+      → Stepping s (reader_after reader s) rest → Stepping s reader (onto note rest)

@@ -1,6 +1,6 @@
 // The notes of a lent part of a file, one step at a time.
-ghost use Rattle.std.specs.Prelude.{◌≡◌, ◌+◌, ◌<◌};
-ghost use Rattle.note.specs.Notes.{aligned, reader_for, to, note_step, reader_after};
+ghost use Rattle.std.specs.Prelude.{◌≡◌, ◌<◌, ◌≤◌};
+ghost use Rattle.note.specs.Notes.{align_size, reader_for, note_step, reader_after};
 
 use endian::kinds::Order;
 use endian::refusals::{
@@ -11,29 +11,36 @@ use word::u32_at;
 // The bytes of a note's header.
 pub const NOTE_HEADER: usize = 12;
 
-#[derive(Clone, Copy)]
+#[derive(Clone, Copy, Debug, PartialEq, Eq)]
 pub enum Align {
     Four,
     Eight,
 }
 
+impl Align {
+    // How many bytes it is.
+    pub fn size(self) -> usize
+        ensures bytes { result ≡ align_size self }
+        ensures range { (0 < result) × (result ≤ 8) }
+    {
+        match self {
+            Align::Four => 4,
+            Align::Eight => 8,
+        }
+    }
+}
+
 // How the notes are laid out, and where the next one starts.
-#[derive(Clone, Copy)]
+#[derive(Clone, Copy, Debug, PartialEq, Eq)]
 pub struct NoteReader {
     pub order: Order,
     pub align: Align,
     pub at: usize,
 }
 
-#[derive(Clone, Copy)]
-pub enum ReaderFor {
-    Reader(NoteReader),
-    Refused(Refusal),
-}
-
-// A note's type, and where its name and its descriptor stand in the lent bytes: namesz bytes at
-// name, and descsz bytes at descriptor.
-#[derive(Clone, Copy)]
+// A note's type, which is any number that the file has, and where its name and its descriptor stand in
+// the lent bytes: namesz bytes at name, and descsz bytes at descriptor.
+#[derive(Clone, Copy, Debug, PartialEq, Eq)]
 pub struct Note {
     pub kind: u32,
     pub name: usize,
@@ -42,105 +49,64 @@ pub struct Note {
     pub descsz: usize,
 }
 
-// What a step found, and the reader that stands after it.
-#[derive(Clone, Copy)]
-pub enum NoteStep {
-    Note(Note, NoteReader),
-    End(NoteReader),
-    Refused(Refusal, NoteReader),
-}
-
 // The reader before the first note. An alignment of 0 to 4 counts as 4, and 8 as 8; all else is
 // refused.
-pub fn reader_for(order: Order, align: u64) -> ReaderFor
+pub fn reader_for(order: Order, align: u64) -> Result<NoteReader, Refusal>
     ensures { result ≡ reader_for order align }
 {
-    match align {
-        0..=4 => ReaderFor::Reader(NoteReader {
-            order,
-            align: Align::Four,
-            at: 0,
-        }),
-        8 => ReaderFor::Reader(NoteReader {
-            order,
-            align: Align::Eight,
-            at: 0,
-        }),
-        _ => ReaderFor::Refused(BAD_NOTE_ALIGNMENT),
-    }
-}
-
-// The first multiple of the alignment that is no less than a number below 2^40.
-pub(crate) fn align_up(align: Align, n: usize) -> usize
-    requires { n < 1099511627776 }
-    ensures { (result ≡ aligned align n) × (result < n + 8) }
-{
-    match align {
-        Align::Four => (n + 3) / 4 * 4,
-        Align::Eight => (n + 7) / 8 * 8,
-    }
+    let align = match align {
+        0..=4 => Align::Four,
+        8 => Align::Eight,
+        _ => return Err(BAD_NOTE_ALIGNMENT),
+    };
+    Ok(NoteReader {
+        order,
+        align,
+        at: 0,
+    })
 }
 
 impl NoteReader {
-    // The same reader at another place.
-    fn moved(self, at: usize) -> NoteReader
-        ensures { result ≡ to self at }
-    {
-        let order = self.order;
-        let align = self.align;
-        NoteReader { order, align, at }
-    }
-
     // One note further, from any place. Refused first: bytes that are too long. Then a reader at or
     // past their end is at its end, and stays as it is. Then refused: fewer bytes than a header's; a
     // name, then a descriptor, that reaches past them. A refused reader stands at the end of these
     // bytes, where the next step over them finds the end unless they are too long.
-    pub fn step(self, bytes: &[u8]) -> NoteStep
-        ensures { result ≡ note_step self bytes.now }
+    #[tactic(auto, using(crate::proofs::Aligned::aligned_next), unfolding(crate::specs::Notes::note_step))]
+    pub fn step(&mut self, bytes: &[u8]) -> Result<Option<Note>, Refusal>
+        ensures found { result ≡ note_step self.old bytes.now }
+        ensures moved { self.new ≡ reader_after self.old bytes.now }
     {
-        if LIMIT < bytes.len() {
-            return NoteStep::Refused(TOO_LONG, self.moved(bytes.len()));
-        }
         let at = self.at;
+        // Where a refused reader stands.
+        self.at = bytes.len();
+        if LIMIT < bytes.len() {
+            return Err(TOO_LONG);
+        }
         if bytes.len() <= at {
-            return NoteStep::End(self);
+            self.at = at;
+            return Ok(None);
         }
         let left = bytes.len() - at;
         if left < NOTE_HEADER {
-            return NoteStep::Refused(NOTE_SHORT, self.moved(bytes.len()));
+            return Err(NOTE_SHORT);
         }
-        let order = self.order;
-        let align = self.align;
-        let namesz = u32_at(order, bytes, at) as usize;
+        let namesz = u32_at(self.order, bytes, at) as usize;
         if left < NOTE_HEADER + namesz {
-            return NoteStep::Refused(BAD_NOTE_NAME, self.moved(bytes.len()));
+            return Err(BAD_NOTE_NAME);
         }
-        let descsz = u32_at(order, bytes, at + 4) as usize;
-        let descriptor = align_up(align, NOTE_HEADER + namesz);
+        let descsz = u32_at(self.order, bytes, at + 4) as usize;
+        let descriptor = (NOTE_HEADER + namesz).next_multiple_of(self.align.size());
         if left < descriptor + descsz {
-            return NoteStep::Refused(BAD_NOTE_DESCRIPTOR, self.moved(bytes.len()));
+            return Err(BAD_NOTE_DESCRIPTOR);
         }
-        let note = Note {
-            kind: u32_at(order, bytes, at + 8),
+        let next = (descriptor + descsz).next_multiple_of(self.align.size());
+        self.at = at + next;
+        Ok(Some(Note {
+            kind: u32_at(self.order, bytes, at + 8),
             name: at + NOTE_HEADER,
             namesz,
             descriptor: at + descriptor,
             descsz,
-        };
-        let next = align_up(align, descriptor + descsz);
-        NoteStep::Note(note, self.moved(at + next))
-    }
-}
-
-impl NoteStep {
-    // The reader that stands after the step.
-    pub fn reader(self) -> NoteReader
-        ensures { result ≡ reader_after self }
-    {
-        match self {
-            NoteStep::Note(_, next) => next,
-            NoteStep::End(next) => next,
-            NoteStep::Refused(_, next) => next,
-        }
+        }))
     }
 }

@@ -1,3 +1,3 @@
--- `Longest`: what the trimmed name is. `Trimming`: the zeros at the end of a name, as a loop passes them.
+-- `Longest`: what the trimmed name is. `Trimming`: the length without the zeros at the end, by the last byte that is none.
 pub mod Longest
 mod Trimming

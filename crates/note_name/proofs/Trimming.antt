@@ -1,38 +1,27 @@
--- The zeros at the end, from the last element on. Assumes nothing.
---     trim_zero              a last element that is 0 does not count
---     trim_last              a last element that is not 0 does, and all before it
---     trim_less, trim_all    the same of a loop that has n elements left
-use Prim.Native.Nat.{ℕ, suc, ◌-◌, ◌<◌, ◌≤◌}
-use mathlib.Core.Path.{◌≡◌, refl, ◌∙◌, ap}
-use mathlib.Core.List.{List, [], ◌∷◌, ◌++◌}
-use native.Mathlib.Omega.{arith}
-use lib.Dec.{eqb-suc-zero}
-use lib.ListN.{length, get_or, take}
-use lib.Seq.{take-suc, length-take-le}
-use borrow.Author.Tests.{ne_eqb}
+-- The length without the zeros at the end, by the last byte that is not 0. Assumes nothing.
+--     trimmed_at_last    it ends with that byte
+--     trimmed_zeros      it is 0 where all bytes are 0
+use Rattle.std.proofs.Common.{ℕ, ◌+◌, ◌-◌, ◌<◌, ◌≤◌, ◌≡◌, refl, Bool, true, false, List, length, get_or, leb, arith, leb-true, leb-false}
 use Rattle.note_name.specs.Trim.{trimmed_length}
+use Rattle.note_name.proofs.Longest.{trimmed_longest}
 
-trim_zero : (s : List ℕ) → trimmed_length (s ++ (0 ∷ [])) ≡ trimmed_length s
-unfolding trimmed_length
-trim_zero [] = refl
-trim_zero (b ∷ s) = simp (trim_zero s)
+module _ (name : List ℕ) where
+  no_longer : (n : ℕ) → ((k : ℕ) → n ≤ k → k < length name → get_or name k 0 ≡ 0) → trimmed_length name ≤ n
+  no_longer n rest = by (leb (trimmed_length name) n) refl
+    where
+      by : (t : Bool) → leb (trimmed_length name) n ≡ t → trimmed_length name ≤ n
+      by true e = leb-true (trimmed_length name) n e
+      by false e =
+          let longer = leb-false (trimmed_length name) n e in
+          let kept = (trimmed_longest name).0 in
+          absurd (kept.1 (omega arith) (rest (trimmed_length name - 1) (omega arith) (omega (arith, kept.0))))
 
-trim_last : (s : List ℕ) (b : ℕ) → (b ≡ 0 → ⊥) → trimmed_length (s ++ (b ∷ [])) ≡ suc (length s)
-unfolding trimmed_length
-trim_last [] b some = simp (ne_eqb b 0 some)
-trim_last (a ∷ s) b some = simp (trim_last s b some, eqb-suc-zero)
+  pub trimmed_at_last : (last : ℕ) → last < length name → (get_or name last 0 ≡ 0 → ⊥)
+      → ((k : ℕ) → last + 1 ≤ k → k < length name → get_or name k 0 ≡ 0) → trimmed_length name ≡ last + 1
+  trimmed_at_last last inside some rest =
+      let back : last + 1 - 1 ≡ last = omega arith in
+      let reaches = (trimmed_longest name).1 (last + 1) (omega arith, λ more z. some (rw back at z)) in
+      omega (arith, reaches, no_longer (last + 1) rest)
 
-module _ (s : List ℕ) (n : ℕ) (inside : n ≤ length s) (more : 0 < n) where
-  prior : take n s ≡ take (n - 1) s ++ (get_or s (n - 1) 0 ∷ [])
-  prior =
-      let one : n ≡ suc (n - 1) = omega arith in
-      let e : take (suc (n - 1)) s ≡ take (n - 1) s ++ (get_or s (n - 1) 0 ∷ []) = take-suc s (n - 1) 0 (omega arith) in
-      ap (λ (k : ℕ). take k s) one ∙ e
-
-  pub trim_less : get_or s (n - 1) 0 ≡ 0 → trimmed_length (take n s) ≡ trimmed_length (take (n - 1) s)
-  trim_less zero' = rw (prior, zero') (trim_zero (take (n - 1) s))
-
-  pub trim_all : (get_or s (n - 1) 0 ≡ 0 → ⊥) → trimmed_length (take n s) ≡ n
-  trim_all some =
-      let size = length-take-le (n - 1) s (omega arith) in
-      rw prior (trim_last (take (n - 1) s) (get_or s (n - 1) 0) some ∙ omega (arith, size))
+  pub trimmed_zeros : ((k : ℕ) → k < length name → get_or name k 0 ≡ 0) → trimmed_length name ≡ 0
+  trimmed_zeros all = omega (arith, no_longer 0 (λ k from inside. all k inside))

@@ -8,12 +8,8 @@ ghost use Rattle.note_name.specs.LentPart.{part_of, trimmed_part};
 pub fn trimmed(name: &[u8]) -> &[u8]
     ensures { part_of result ≡ trimmed_part name.entry }
 {
-    let mut n = name.len();
-    while 0 < n {
-        if name[n - 1] != 0 {
-            return &name[..n];
-        }
-        n -= 1;
+    match name.iter().rposition(|&b| b != 0) {
+        Some(last) => &name[..=last],
+        None => &name[..0],
     }
-    &name[..n]
 }

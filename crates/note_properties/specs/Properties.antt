@@ -2,15 +2,14 @@
 --     gnu, is_gnu                       the bytes of `GNU`, and whether the trimmed name is that
 --     property_start, gnu_properties    the reader before the first property, and the same if the note is of this kind
 -- Assumes nothing.
-use Rattle.std.specs.Prelude.{ℕ, Bool, cond, ◌&&◌, List, [], ◌∷◌, eqb}
+use Rattle.std.specs.Prelude.{ℕ, Bool, cond, ◌&&◌, List, [], ◌∷◌, eqb, Result, Ok, Err, Option, Some, None}
 use Rattle.endian.specs.declared.kinds.Class.{Class}
 use Rattle.endian.specs.declared.kinds.Order.{Order}
+use Rattle.endian.specs.declared.refusals.Refusal.{Refusal}
 use Rattle.endian.specs.Refusals.{any_long, too_long}
 use Rattle.endian.specs.First.{same}
 use Rattle.note_name.specs.Trim.{trimmed_of}
 use Rattle.property_reader.specs.declared.PropertyReader.{PropertyReader}
-use Rattle.note_properties.specs.declared.GnuProperties.{GnuProperties}
-use Rattle.note_properties.specs.declared.GnuProperties.TheVariants.{Reader, NotThisKind, Refused as Properties-as-Refused}
 
 abbrev pub property_start : Class → Order → PropertyReader
 property_start class order = record { class = class; order = order; at = 0 }
@@ -22,7 +21,7 @@ unfoldable pub is_gnu : List ℕ → Bool
 is_gnu name = same (trimmed_of name) gnu
 
 -- only for type 5 and trimmed name `GNU`
-abbrev pub gnu_properties : Class → Order → (kind : ℕ) → (name descriptor : List ℕ) → GnuProperties
+abbrev pub gnu_properties : Class → Order → (kind : ℕ) → (name descriptor : List ℕ) → Result (Option PropertyReader) Refusal
 gnu_properties class order kind name descriptor =
-    cond (any_long (name ∷ descriptor ∷ [])) (Properties-as-Refused too_long)
-    (cond (eqb kind 5 && is_gnu name) (Reader (property_start class order)) NotThisKind)
+    cond (any_long (name ∷ descriptor ∷ [])) (Err too_long)
+    (cond (eqb kind 5 && is_gnu name) (Ok (Some (property_start class order))) (Ok None))

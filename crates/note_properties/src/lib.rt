@@ -12,28 +12,11 @@ use property_reader::PropertyReader;
 // The type of a note that holds properties, where its name is `GNU`.
 pub const NT_GNU_PROPERTY_TYPE_0: u32 = 5;
 
-#[derive(Clone, Copy)]
-pub enum GnuProperties {
-    Reader(PropertyReader),
-    NotThisKind,
-    Refused(Refusal),
-}
-
 // Whether the trimmed name is `GNU`.
 fn is_gnu(name: &[u8]) -> bool
     ensures { result ≡ is_gnu name.now }
 {
-    let short = trimmed(name);
-    if short.len() != 3 {
-        return false;
-    }
-    if short[0] != b'G' {
-        return false;
-    }
-    if short[1] != b'N' {
-        return false;
-    }
-    short[2] == b'U'
+    trimmed(name) == b"GNU".as_slice()
 }
 
 // The reader before the first property of a note, by the note's type, name and descriptor. Refused
@@ -45,25 +28,18 @@ pub fn gnu_properties(
     kind: u32,
     name: &[u8],
     descriptor: &[u8],
-) -> GnuProperties
+) -> Result<Option<PropertyReader>, Refusal>
     ensures { result ≡ gnu_properties class order kind name.now descriptor.now }
 {
-    if LIMIT < name.len() {
-        return GnuProperties::Refused(TOO_LONG);
+    if LIMIT < name.len() || LIMIT < descriptor.len() {
+        return Err(TOO_LONG);
     }
-    if LIMIT < descriptor.len() {
-        return GnuProperties::Refused(TOO_LONG);
+    if kind != NT_GNU_PROPERTY_TYPE_0 || !is_gnu(name) {
+        return Ok(None);
     }
-    if kind != NT_GNU_PROPERTY_TYPE_0 {
-        return GnuProperties::NotThisKind;
-    }
-    if is_gnu(name) {
-        GnuProperties::Reader(PropertyReader {
-            class,
-            order,
-            at: 0,
-        })
-    } else {
-        GnuProperties::NotThisKind
-    }
+    Ok(Some(PropertyReader {
+        class,
+        order,
+        at: 0,
+    }))
 }

@@ -4,39 +4,16 @@
 
 ghost use Rattle.std.specs.Prelude.{◌≡◌};
 ghost use Rattle.note.specs.Notes.{note_step};
-ghost use Rattle.note_reader.specs.Held.{notes_at, stepped};
-ghost use Rattle.note_reader.specs.Moved.{moved};
+ghost use Rattle.note_reader.specs.Held.{notes_at, answered, stepped};
 
-use note::reader::{NoteReader, NoteStep};
+use endian::refusals::Refusal;
+use note::reader::{Note, NoteReader};
 
 // The lent bytes, and the reader of what is left of them.
 #[derive(Clone, Copy)]
 pub struct Notes<'a> {
     pub bytes: &'a [u8],
     pub reader: NoteReader,
-}
-
-// What a step found, and the notes that are left after it.
-#[derive(Clone, Copy)]
-pub struct Stepped<'a> {
-    pub answer: NoteStep,
-    pub next: Notes<'a>,
-}
-
-// What a step found, and the reader after it.
-#[derive(Clone, Copy)]
-struct Moved {
-    answer: NoteStep,
-    next: NoteReader,
-}
-
-// A step, with the reader after it beside the answer.
-fn step_of(reader: NoteReader, bytes: &[u8]) -> Moved
-    ensures { result ≡ moved (note_step reader bytes.now) }
-{
-    let answer = reader.step(bytes);
-    let next = answer.reader();
-    Moved { answer, next }
 }
 
 // The bytes with a reader.
@@ -48,23 +25,18 @@ pub fn notes_of<'a>(bytes: &'a [u8], reader: NoteReader) -> Notes<'a>
 
 impl<'a> Notes<'a> {
     // One note further: as `NoteReader::step`, with the reader moved.
-    pub fn next(self) -> Stepped<'a>
-        ensures { result ≡ stepped self.entry }
+    // No `Iterator`, which would not end: over bytes that are too long each step is refused anew.
+    pub fn next(&mut self) -> Result<Option<Note>, Refusal>
+        ensures found { result ≡ answered self.old }
+        ensures moved { self.new ≡ stepped self.old }
     {
-        let step = step_of(self.reader, self.bytes);
-        Stepped {
-            answer: step.answer,
-            next: Notes {
-                bytes: self.bytes,
-                reader: step.next,
-            },
-        }
+        self.reader.step(self.bytes)
     }
 }
 
 // What the first step of a reader over the bytes finds.
-pub fn first_step(bytes: &[u8], reader: NoteReader) -> NoteStep
+pub fn first_step(bytes: &[u8], reader: NoteReader) -> Result<Option<Note>, Refusal>
     ensures { result ≡ note_step reader bytes.now }
 {
-    notes_of(bytes, reader).next().answer
+    notes_of(bytes, reader).next()
 }

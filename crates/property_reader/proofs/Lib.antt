@@ -1,2 +1,2 @@
--- `Steps`: each answer of a step, by its tests.
+-- `Steps`: a reader at its end.
 mod Steps

@@ -4,13 +4,14 @@
 --     property_size         its second field: the bytes of its data
 --     property_next         where the next property starts, from this one's own start
 --     property_of           the property at a reader's place; its type is the first field
---     property_step         what a step finds, with the reader that stands after it
+--     property_step         what a step finds
 --     property_number       a property's data as a number
 -- Assumes nothing.
-use Rattle.std.specs.Prelude.{ℕ, ◌+◌, cond, List, leb, ltb, length}
+use Rattle.std.specs.Prelude.{ℕ, ◌+◌, cond, List, leb, ltb, length, Result, Ok, Err, Option, Some, None}
 use Rattle.endian.specs.declared.kinds.Class.{Class}
 use Rattle.endian.specs.declared.kinds.Class.TheVariants.{Elf32, Elf64}
 use Rattle.endian.specs.declared.kinds.Order.{Order}
+use Rattle.endian.specs.declared.refusals.Refusal.{Refusal}
 use Rattle.endian.specs.Refusals.{limit, too_long, bad_property, short_property_number}
 use Rattle.endian.specs.Word.{word_at, field_at}
 use Rattle.note.specs.Notes.{aligned}
@@ -18,10 +19,6 @@ use Rattle.note.specs.declared.reader.Align.{Align}
 use Rattle.note.specs.declared.reader.Align.TheVariants.{Four, Eight}
 use Rattle.property_reader.specs.declared.PropertyReader.{PropertyReader}
 use Rattle.property_reader.specs.declared.Property.{Property}
-use Rattle.property_reader.specs.declared.PropertyStep.{PropertyStep}
-use Rattle.property_reader.specs.declared.PropertyStep.TheVariants.{Property as Step-as-Property, End, Refused}
-use Rattle.property_reader.specs.declared.PropertyNumber.{PropertyNumber}
-use Rattle.property_reader.specs.declared.PropertyNumber.TheVariants.{Number, Refused as Number-as-Refused}
 
 abbrev pub property_align : Class → Align
 property_align Elf32 = Four
@@ -40,18 +37,17 @@ abbrev pub property_of : PropertyReader → List ℕ → Property
 property_of reader s =
     record { kind = field_at reader.order s reader.at 4 0; start = reader.at + 8; size = property_size reader s }
 
--- the padding must be present: a property is whole if the bytes reach to where the next one starts; a refused reader
--- stands at the end of the bytes
-unfoldable pub property_step : PropertyReader → List ℕ → PropertyStep
+-- the padding must be present: a property is whole if the bytes reach to where the next one starts
+unfoldable pub property_step : PropertyReader → List ℕ → Result (Option Property) Refusal
 property_step reader s =
-    cond (ltb limit (length s)) (Refused too_long (property_reader_at reader (length s)))
-    (cond (leb (length s) reader.at) (End reader)
-    (cond (ltb (length s) (reader.at + property_next reader s)) (Refused bad_property (property_reader_at reader (length s)))
-    (Step-as-Property (property_of reader s) (property_reader_at reader (reader.at + property_next reader s)))))
+    cond (ltb limit (length s)) (Err too_long)
+    (cond (leb (length s) reader.at) (Ok None)
+    (cond (ltb (length s) (reader.at + property_next reader s)) (Err bad_property)
+    (Ok (Some (property_of reader s)))))
 
 -- its first 4 bytes in the file's order
-abbrev pub property_number : Order → List ℕ → PropertyNumber
+abbrev pub property_number : Order → List ℕ → Result ℕ Refusal
 property_number order s =
-    cond (ltb limit (length s)) (Number-as-Refused too_long)
-    (cond (ltb (length s) 4) (Number-as-Refused short_property_number)
-    (Number (word_at order 4 s 0)))
+    cond (ltb limit (length s)) (Err too_long)
+    (cond (ltb (length s) 4) (Err short_property_number)
+    (Ok (word_at order 4 s 0)))

@@ -1,19 +1,11 @@
 -- A symbol's name can be read exactly if there is such a symbol and its name starts below `readable_end`.
 --     name_readable_lem    that
 -- Assumes nothing.
-use Prim.Native.Nat.{ℕ}
-use mathlib.Core.Path.{◌≡◌, refl, sym, ap, ◌∙◌}
-use mathlib.Core.Bool.{Bool, true, false, cond, not}
-use mathlib.Core.List.{List}
-use native.Mathlib.Omega.{arith}
-use lib.Dec.{ltb}
-use lib.ListN.{length, drop}
-use borrow.Author.Tests.{le-ltb}
+use Rattle.std.proofs.Common.{ℕ, ◌≡◌, refl, sym, ap, ◌∙◌, Bool, true, false, cond, not, List, arith, ltb, length, drop, le-ltb, Result, Ok, Err}
 use Rattle.endian.specs.declared.kinds.Class.{Class}
 use Rattle.endian.specs.declared.kinds.Order.{Order}
 use Rattle.endian.specs.First.{first, is_zero, readable}
 use Rattle.endian.specs.Refusals.{limit, no_string}
-use Rattle.std.specs.Prelude.{Result, Ok, Err}
 use Rattle.endian.specs.declared.refusals.Refusal.{Refusal}
 use Rattle.strings.specs.declared.Place.{Place}
 use Rattle.strings.specs.Strings.{string_at}

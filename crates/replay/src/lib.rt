@@ -47,20 +47,20 @@ pub fn replay<R: Read, F: Fn(&[u8]) -> bool>(
 }
 
 // A part of a record: so many bytes from a place on, or none where the record is too short.
-pub fn part(record: &[u8], start: usize, length: u8) -> &[u8]
-    ensures { result.now ≡ part_of record.now start length }
+pub fn part(recorded: &[u8], start: usize, length: u8) -> &[u8]
+    ensures { result.now ≡ part_of recorded.now start length }
 {
-    match record.get(start..) {
+    match recorded.get(start..) {
         Some(rest) => rest.get(..length as usize).unwrap_or(&[]),
         None => &[],
     }
 }
 
 // The same of a part whose length stands at a place, in the byte before it.
-pub fn part_at(record: &[u8], at: usize) -> &[u8]
-    ensures { result.now ≡ part_of record.now (at + 1) (get_or record.now at 0) }
+pub fn part_at(recorded: &[u8], at: usize) -> &[u8]
+    ensures { result.now ≡ part_of recorded.now (at + 1) (get_or recorded.now at 0) }
 {
-    match record.get(at..) {
+    match recorded.get(at..) {
         Some([length, rest @ ..]) => part(rest, 0, *length),
         _ => &[],
     }

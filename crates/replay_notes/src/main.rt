@@ -2,12 +2,11 @@
 // standard input (docs/COMPARISON.md). Prints how many there were and how many walks differ.
 #![tactic(auto)]
 
-ghost use Rattle.std.specs.Prelude.{◌<◌};
-
 use endian::kinds::Order;
+use endian::refusals::Refusal;
 use export::kinds::{class_of, order_of};
-use note::reader::{Note, NoteReader, NoteStep, ReaderFor, reader_for};
-use property_reader::{Property, PropertyNumber, PropertyReader, PropertyStep, property_number};
+use note::reader::{Note, NoteReader, reader_for};
+use property_reader::{Property, PropertyReader, property_number};
 use replay::replay;
 use std::io;
 use word::{u8_at, u32_at};
@@ -28,152 +27,103 @@ const FOUND: u8 = 1;
 
 const END: u8 = 2;
 
-// Whether the step that is recorded at a place is this refusal.
-fn same_refusal(record: &[u8], at: usize, number: u32) -> bool
-    requires { at < 1000 }
-{
-    if u8_at(record, at) != REFUSED {
-        return false;
+// What the recorded step found, or none where the record names no such thing.
+fn recorded_note(step: &[u8]) -> Option<Result<Option<Note>, Refusal>> {
+    match u8_at(step, 0) {
+        REFUSED => Some(Err(Refusal(u8_at(step, 1) as u32))),
+        FOUND => Some(Ok(Some(Note {
+            kind: u32_at(Order::Little, step, 2),
+            name: u8_at(step, 6) as usize,
+            namesz: u8_at(step, 7) as usize,
+            descriptor: u8_at(step, 8) as usize,
+            descsz: u8_at(step, 9) as usize,
+        }))),
+        END => Some(Ok(None)),
+        _ => None,
     }
-    u8_at(record, at + 1) as u32 == number
-}
-
-fn same_note(record: &[u8], at: usize, note: Note) -> bool
-    requires { at < 1000 }
-{
-    if u8_at(record, at) != FOUND {
-        return false;
-    }
-    if note.kind != u32_at(Order::Little, record, at + 2) {
-        return false;
-    }
-    if note.name != u8_at(record, at + 6) as usize {
-        return false;
-    }
-    if note.namesz != u8_at(record, at + 7) as usize {
-        return false;
-    }
-    if note.descriptor != u8_at(record, at + 8) as usize {
-        return false;
-    }
-    note.descsz == u8_at(record, at + 9) as usize
 }
 
 // Whether each step from the reader on is the one that is recorded, to the end.
-fn notes_agree(record: &[u8], first: NoteReader, bytes: &[u8]) -> bool {
-    let mut reader = first;
-    let mut at = STEPS;
-    while at < RECORD {
-        match reader.step(bytes) {
-            NoteStep::Note(note, next) => {
-                if !same_note(record, at, note) {
-                    return false;
-                }
-                reader = next;
-            }
-            NoteStep::End(_) => {
-                return u8_at(record, at) == END;
-            }
-            NoteStep::Refused(refusal, next) => {
-                if !same_refusal(record, at, refusal.0) {
-                    return false;
-                }
-                reader = next;
-            }
+fn notes_agree(record: &[u8; RECORD], mut reader: NoteReader, bytes: &[u8]) -> bool {
+    for step in record[STEPS..].chunks(STEP) {
+        let found = reader.step(bytes);
+        if recorded_note(step) != Some(found) {
+            return false;
         }
-        at += STEP;
+        if found == Ok(None) {
+            return true;
+        }
     }
     false
 }
 
-fn walk_agrees(record: &[u8], bytes: &[u8]) -> bool {
-    match reader_for(order_of(u8_at(record, 1)), u8_at(record, 2) as u64) {
-        ReaderFor::Reader(reader) => notes_agree(record, reader, bytes),
-        ReaderFor::Refused(refusal) => same_refusal(record, STEPS, refusal.0),
+fn walk_agrees(record: &[u8; RECORD], bytes: &[u8]) -> bool {
+    match reader_for(order_of(record[1]), record[2] as u64) {
+        Ok(reader) => notes_agree(record, reader, bytes),
+        Err(refusal) => recorded_note(&record[STEPS..]) == Some(Err(refusal)),
     }
 }
 
-fn same_number(record: &[u8], at: usize, number: PropertyNumber) -> bool
-    requires { at < 2000 }
-{
-    let refusal = u8_at(record, at) as u32;
-    match number {
-        PropertyNumber::Number(value) => {
-            if refusal != 0 {
-                return false;
-            }
-            value % 256 == u8_at(record, at + 1) as u32
+// The same of a property, without its number.
+fn recorded_property(step: &[u8]) -> Option<Result<Option<Property>, Refusal>> {
+    match u8_at(step, 0) {
+        REFUSED => Some(Err(Refusal(u8_at(step, 1) as u32))),
+        FOUND => Some(Ok(Some(Property {
+            kind: u32_at(Order::Little, step, 2),
+            start: u8_at(step, 6) as usize,
+            size: u8_at(step, 7) as usize,
+        }))),
+        END => Some(Ok(None)),
+        _ => None,
+    }
+}
+
+// A property's data, where it is all there.
+fn data_of(property: Property, bytes: &[u8]) -> Option<&[u8]> {
+    bytes.get(property.start..)?.get(..property.size)
+}
+
+// Whether the property's number is the recorded one, of which the record has the lowest byte.
+fn number_agrees(step: &[u8], order: Order, property: Property, bytes: &[u8]) -> bool {
+    let Some(part) = data_of(property, bytes) else {
+        return false;
+    };
+    let recorded = match u8_at(step, 8) {
+        0 => Ok(u8_at(step, 9) as u32),
+        refusal => Err(Refusal(refusal as u32)),
+    };
+    property_number(order, part).map(|value| value % 256) == recorded
+}
+
+fn properties_agree(record: &[u8; RECORD], mut reader: PropertyReader, bytes: &[u8]) -> bool {
+    for step in record[STEPS..].chunks(STEP) {
+        let found = reader.step(bytes);
+        if recorded_property(step) != Some(found) {
+            return false;
         }
-        PropertyNumber::Refused(r) => r.0 == refusal,
-    }
-}
-
-fn same_property(record: &[u8], at: usize, property: Property, bytes: &[u8]) -> bool
-    requires { at < 1000 }
-{
-    let order = order_of(u8_at(record, 1));
-    if u8_at(record, at) != FOUND {
-        return false;
-    }
-    if property.kind != u32_at(Order::Little, record, at + 2) {
-        return false;
-    }
-    let start = property.start;
-    let size = property.size;
-    if start != u8_at(record, at + 6) as usize {
-        return false;
-    }
-    if size != u8_at(record, at + 7) as usize {
-        return false;
-    }
-    if bytes.len() < start {
-        return false;
-    }
-    if bytes.len() - start < size {
-        return false;
-    }
-    let end = start + size;
-    same_number(record, at + 8, property_number(order, &bytes[start..end]))
-}
-
-fn properties_agree(record: &[u8], first: PropertyReader, bytes: &[u8]) -> bool {
-    let mut reader = first;
-    let mut at = STEPS;
-    while at < RECORD {
-        match reader.step(bytes) {
-            PropertyStep::Property(property, next) => {
-                if !same_property(record, at, property, bytes) {
+        match found {
+            Ok(Some(property)) => {
+                if !number_agrees(step, reader.order, property, bytes) {
                     return false;
                 }
-                reader = next;
             }
-            PropertyStep::End(_) => {
-                return u8_at(record, at) == END;
-            }
-            PropertyStep::Refused(refusal, next) => {
-                if !same_refusal(record, at, refusal.0) {
-                    return false;
-                }
-                reader = next;
-            }
+            Ok(None) => return true,
+            Err(_) => {}
         }
-        at += STEP;
     }
     false
 }
 
-fn agrees(record: &[u8]) -> bool {
-    let end = BYTES + u8_at(record, 3) as usize;
-    if record.len() < end {
+fn agrees(record: &[u8; RECORD]) -> bool {
+    let Some(bytes) = record.get(BYTES..BYTES + record[3] as usize) else {
         return false;
-    }
-    let bytes = &record[BYTES..end];
-    if u8_at(record, 0) == b'n' {
+    };
+    if record[0] == b'n' {
         return walk_agrees(record, bytes);
     }
     let reader = PropertyReader {
-        class: class_of(u8_at(record, 2)),
-        order: order_of(u8_at(record, 1)),
+        class: class_of(record[2]),
+        order: order_of(record[1]),
         at: 0,
     };
     properties_agree(record, reader, bytes)
@@ -181,7 +131,9 @@ fn agrees(record: &[u8]) -> bool {
 
 fn main(rt: HostRuntime) -> io::Result<()> {
     let mut record = [0u8; RECORD];
-    let tally = replay(&mut rt.reader(), &mut record, agrees)?;
+    let tally = replay(&mut rt.reader(), &mut record, |record| {
+        record.first_chunk().is_some_and(agrees)
+    })?;
     println!(rt;
         "{} recorded walks over notes and properties, {} different",
         tally.ran, tally.different

@@ -3,16 +3,17 @@
 #![tactic(auto)]
 
 use endian::kinds::{Class, Order};
+use endian::refusals::Refusal;
 use export::kinds::{class_of, order_of};
-use note::reader::Align;
 use replay::replay;
-use segment::table::{SegmentAt, segment_at};
-use segment_data::part::{SegmentData, SegmentDataRange, segment_data, segment_data_range};
-use segment_dynamic::dynamic::{DynamicEntryAt, SegmentDynamic, dynamic_entry, segment_dynamic};
+use segment::table::segment_at;
+use segment_data::part::{segment_data, segment_data_range};
+use segment_dynamic::dynamic::{DynamicEntry, DynamicPart, dynamic_entry, segment_dynamic};
 use segment_entry::Segment;
-use segment_parts::interpreter::{SegmentInterpreter, segment_interpreter};
-use segment_parts::notes::{SegmentNotes, segment_notes};
+use segment_parts::interpreter::segment_interpreter;
+use segment_parts::notes::{NotesPart, segment_notes};
 use std::io;
+use strings::Place;
 use word::{u8_at, u32_at, u64_at};
 
 const RECORD: usize = 320;
@@ -51,191 +52,138 @@ const FOUND: u8 = 1;
 
 const NONE: u8 = 2;
 
+// The bytes at a place, where they are all there.
+fn part(bytes: &[u8], place: Place) -> Option<&[u8]> {
+    bytes.get(place.start..)?.get(..place.len)
+}
+
 // A part of the record, or none of it where the record is too short.
-fn part(record: &[u8], start: usize, length: u8) -> &[u8] {
-    let n = length as usize;
-    if record.len() < start {
-        return &record[0..0];
-    }
-    if record.len() - start < n {
-        return &record[0..0];
-    }
-    let end = start + n;
-    &record[start..end]
+fn recorded(record: &[u8; RECORD], start: usize, length: u8) -> &[u8] {
+    let len = length as usize;
+    part(record, Place { start, len }).unwrap_or(&[])
 }
 
-fn same_fields(record: &[u8], segment: Segment) -> bool {
-    if segment.kind != u32_at(Order::Little, record, SEGMENT + 1) {
-        return false;
-    }
-    if segment.flags != u32_at(Order::Little, record, SEGMENT + 5) {
-        return false;
-    }
-    if segment.offset != u64_at(Order::Little, record, SEGMENT + 9) {
-        return false;
-    }
-    if segment.vaddr != u64_at(Order::Little, record, SEGMENT + 17) {
-        return false;
-    }
-    if segment.paddr != u64_at(Order::Little, record, SEGMENT + 25) {
-        return false;
-    }
-    if segment.filesz != u64_at(Order::Little, record, SEGMENT + 33) {
-        return false;
-    }
-    if segment.memsz != u64_at(Order::Little, record, SEGMENT + 41) {
-        return false;
-    }
-    segment.align == u64_at(Order::Little, record, SEGMENT + 49)
-}
-
-// A refusal or none, in 5 bytes from a place on.
-fn same_none(record: &[u8], at: usize, what: u8, refusal: u32) -> bool {
-    let answer = part(record, at, 5);
-    if u8_at(answer, 0) != what {
-        return false;
-    }
-    u8_at(answer, 1) as u32 == refusal
-}
-
-// A part of the file and a number, the same.
-fn same_part(record: &[u8], at: usize, start: usize, len: usize, number: usize) -> bool {
-    let answer = part(record, at, 5);
-    if u8_at(answer, 0) != FOUND {
-        return false;
-    }
-    if u8_at(answer, 2) as usize != start {
-        return false;
-    }
-    if u8_at(answer, 3) as usize != len {
-        return false;
-    }
-    u8_at(answer, 4) as usize == number
-}
-
-fn same_data(record: &[u8], found: SegmentData) -> bool {
-    match found {
-        SegmentData::At { start, len } => same_part(record, DATA, start, len, 0),
-        SegmentData::Refused(r) => same_none(record, DATA, REFUSED, r.0),
+// The recorded segment.
+fn recorded_segment(record: &[u8; RECORD]) -> Segment {
+    let fields = &record[SEGMENT + 1..];
+    Segment {
+        kind: u32_at(Order::Little, fields, 0),
+        flags: u32_at(Order::Little, fields, 4),
+        offset: u64_at(Order::Little, fields, 8),
+        vaddr: u64_at(Order::Little, fields, 16),
+        paddr: u64_at(Order::Little, fields, 24),
+        filesz: u64_at(Order::Little, fields, 32),
+        memsz: u64_at(Order::Little, fields, 40),
+        align: u64_at(Order::Little, fields, 48),
     }
 }
 
-fn same_range(record: &[u8], found: SegmentDataRange) -> bool {
-    match found {
-        SegmentDataRange::At { start, len } => same_part(record, RANGE, start, len, 0),
-        SegmentDataRange::NotHere => same_none(record, RANGE, NONE, 0),
-        SegmentDataRange::Refused(r) => same_none(record, RANGE, REFUSED, r.0),
+// A part of the file and its number, as the record has them.
+type Part = (Place, usize);
+
+// The answer that 5 bytes from a place on record, or none where they record no such thing.
+fn recorded_part(record: &[u8; RECORD], at: usize) -> Option<Result<Option<Part>, Refusal>> {
+    let answer = recorded(record, at, 5);
+    let refusal = Refusal(u8_at(answer, 1) as u32);
+    let place = Place {
+        start: u8_at(answer, 2) as usize,
+        len: u8_at(answer, 3) as usize,
+    };
+    match u8_at(answer, 0) {
+        REFUSED => Some(Err(refusal)),
+        FOUND => Some(Ok(Some((place, u8_at(answer, 4) as usize)))),
+        NONE if refusal == Refusal(0) => Some(Ok(None)),
+        _ => None,
     }
 }
 
-fn same_interpreter(record: &[u8], found: SegmentInterpreter) -> bool {
-    match found {
-        SegmentInterpreter::At { start, len } => same_part(record, INTERPRETER, start, len, 0),
-        SegmentInterpreter::NotThisKind => same_none(record, INTERPRETER, NONE, 0),
-        SegmentInterpreter::Refused(r) => same_none(record, INTERPRETER, REFUSED, r.0),
-    }
+// Whether the answer that is recorded at a place is this one, of number 0.
+fn place_agrees(record: &[u8; RECORD], at: usize, found: Result<Option<Place>, Refusal>) -> bool {
+    recorded_part(record, at) == Some(found.map(|here| here.map(|place| (place, 0))))
 }
 
-fn align_number(align: Align) -> usize {
-    match align {
-        Align::Four => 4,
-        Align::Eight => 8,
-    }
-}
-
-fn same_notes(record: &[u8], found: SegmentNotes) -> bool {
-    match found {
-        SegmentNotes::At { reader, start, len } => {
-            let align = reader.align;
-            same_part(record, NOTES, start, len, align_number(align))
-        }
-        SegmentNotes::NotThisKind => same_none(record, NOTES, NONE, 0),
-        SegmentNotes::Refused(r) => same_none(record, NOTES, REFUSED, r.0),
+// The recorded entry, or none where the record names no such thing.
+fn recorded_entry(record: &[u8; RECORD]) -> Option<Option<DynamicEntry>> {
+    match record[ENTRY] {
+        FOUND => Some(Some(DynamicEntry {
+            tag: u64_at(Order::Little, record, ENTRY + 1),
+            value: u64_at(Order::Little, record, ENTRY + 9),
+        })),
+        NONE => Some(None),
+        _ => None,
     }
 }
 
 // Whether the entry of the recorded number among the entries' bytes is the recorded one.
-fn same_entry(record: &[u8], class: Class, order: Order, start: usize, len: usize) -> bool {
-    let file = part(record, FILE, u8_at(record, FILE - 1));
-    if file.len() < start {
-        return false;
-    }
-    if file.len() - start < len {
-        return false;
-    }
-    let end = start + len;
-    let number = u8_at(record, ENTRY_NUMBER) as u32;
-    match dynamic_entry(class, order, &file[start..end], number) {
-        DynamicEntryAt::At(entry) => {
-            if u8_at(record, ENTRY) != FOUND {
-                return false;
-            }
-            if entry.tag != u64_at(Order::Little, record, ENTRY + 1) {
-                return false;
-            }
-            entry.value == u64_at(Order::Little, record, ENTRY + 9)
-        }
-        DynamicEntryAt::NoEntry => u8_at(record, ENTRY) == NONE,
-        DynamicEntryAt::Refused(_) => false,
+fn entry_agrees(record: &[u8; RECORD], class: Class, order: Order, place: Place) -> bool {
+    let file = recorded(record, FILE, record[FILE - 1]);
+    let number = record[ENTRY_NUMBER] as u32;
+    match (part(file, place), recorded_entry(record)) {
+        (Some(bytes), Some(entry)) => dynamic_entry(class, order, bytes, number) == Ok(entry),
+        _ => false,
     }
 }
 
-fn same_dynamic(record: &[u8], class: Class, order: Order, found: SegmentDynamic) -> bool {
-    match found {
-        SegmentDynamic::At { start, len, count } => {
-            if !same_part(record, DYNAMIC, start, len, count) {
-                return false;
-            }
-            same_entry(record, class, order, start, len)
-        }
-        SegmentDynamic::NotThisKind => same_none(record, DYNAMIC, NONE, 0),
-        SegmentDynamic::Refused(r) => same_none(record, DYNAMIC, REFUSED, r.0),
+// Whether the dynamic entries are the recorded ones, and the one of the recorded number is.
+fn dynamic_agrees(
+    record: &[u8; RECORD],
+    class: Class,
+    order: Order,
+    found: Result<Option<DynamicPart>, Refusal>,
+) -> bool {
+    let counted = found.map(|held| held.map(|part| (part.place, part.count)));
+    if recorded_part(record, DYNAMIC) != Some(counted) {
+        return false;
     }
+    match found {
+        Ok(Some(part)) => entry_agrees(record, class, order, part.place),
+        _ => true,
+    }
+}
+
+// Whether the notes stand in the recorded part, and have the recorded alignment.
+fn notes_agree(record: &[u8; RECORD], found: Result<Option<NotesPart>, Refusal>) -> bool {
+    let aligned = found.map(|held| held.map(|part| (part.place, part.reader.align.size())));
+    recorded_part(record, NOTES) == Some(aligned)
 }
 
 // Whether all that the segment holds is as recorded.
-fn same_held(record: &[u8], class: Class, order: Order, segment: Segment) -> bool {
-    let file = part(record, FILE, u8_at(record, FILE - 1));
+fn held_agrees(record: &[u8; RECORD], class: Class, order: Order, segment: Segment) -> bool {
+    let file = recorded(record, FILE, record[FILE - 1]);
     let address = u64_at(Order::Little, record, ADDRESS);
     let size = u64_at(Order::Little, record, SIZE);
-    if !same_data(record, segment_data(file, segment)) {
-        return false;
-    }
-    if !same_range(record, segment_data_range(file, segment, address, size)) {
-        return false;
-    }
-    if !same_dynamic(record, class, order, segment_dynamic(class, file, segment)) {
-        return false;
-    }
-    if !same_interpreter(record, segment_interpreter(file, segment)) {
-        return false;
-    }
-    same_notes(record, segment_notes(order, file, segment))
+    place_agrees(record, DATA, segment_data(file, segment).map(Some))
+        && place_agrees(
+            record,
+            RANGE,
+            segment_data_range(file, segment, address, size),
+        )
+        && dynamic_agrees(record, class, order, segment_dynamic(class, file, segment))
+        && place_agrees(record, INTERPRETER, segment_interpreter(file, segment))
+        && notes_agree(record, segment_notes(order, file, segment))
 }
 
-fn agrees(record: &[u8]) -> bool {
-    let class = class_of(u8_at(record, 0));
-    let order = order_of(u8_at(record, 1));
-    let table = part(record, TABLE, u8_at(record, 2));
+fn agrees(record: &[u8; RECORD]) -> bool {
+    let class = class_of(record[0]);
+    let order = order_of(record[1]);
+    let table = recorded(record, TABLE, record[2]);
     let number = u32_at(Order::Little, record, NUMBER);
-    let refusal = u8_at(record, SEGMENT) as u32;
+    let refusal = record[SEGMENT] as u32;
     match segment_at(class, order, table, number) {
-        SegmentAt::At(segment) => {
-            if refusal != 0 {
-                return false;
-            }
-            if !same_fields(record, segment) {
-                return false;
-            }
-            same_held(record, class, order, segment)
+        Ok(segment) => {
+            refusal == 0
+                && segment == recorded_segment(record)
+                && held_agrees(record, class, order, segment)
         }
-        SegmentAt::Refused(r) => r.0 == refusal,
+        Err(found) => found == Refusal(refusal),
     }
 }
 
 fn main(rt: HostRuntime) -> io::Result<()> {
     let mut record = [0u8; RECORD];
-    let tally = replay(&mut rt.reader(), &mut record, agrees)?;
+    let tally = replay(&mut rt.reader(), &mut record, |record| {
+        record.first_chunk().is_some_and(agrees)
+    })?;
     println!(rt;
         "{} recorded answers about segments, {} different",
         tally.ran, tally.different

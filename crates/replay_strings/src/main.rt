@@ -3,49 +3,38 @@
 #![tactic(auto)]
 
 use endian::kinds::Order;
+use endian::refusals::Refusal;
 use replay::replay;
 use std::io;
-use strings::StringAt;
+use strings::Place;
 use word::{u8_at, u32_at};
 
 const RECORD: usize = 64;
 
-// Whether string_at gives the recorded refusal, or the recorded place.
-fn same_place(found: StringAt, refusal: u32, start: u32, length: u32) -> bool {
-    match found {
-        StringAt::At { start: s, len } => {
-            if refusal != 0 {
-                return false;
-            }
-            if s != start as usize {
-                return false;
-            }
-            len == length as usize
-        }
-        StringAt::Refused(r) => r.0 == refusal,
+// What string_at gave: the recorded refusal, or the recorded place.
+fn place_recorded(record: &[u8]) -> Result<Place, Refusal> {
+    match u8_at(record, 37) {
+        0 => Ok(Place {
+            start: u32_at(Order::Little, record, 38) as usize,
+            len: u32_at(Order::Little, record, 42) as usize,
+        }),
+        refusal => Err(Refusal(refusal as u32)),
     }
 }
 
 fn agrees(record: &[u8]) -> bool {
     let strings_end = 1 + u8_at(record, 0) as usize;
     let name_end = 47 + u8_at(record, 46) as usize;
-    if record.len() < strings_end {
+    let Some(strings) = record.get(1..strings_end) else {
         return false;
-    }
-    if record.len() < name_end {
+    };
+    let Some(name) = record.get(47..name_end) else {
         return false;
-    }
-    let strings = &record[1..strings_end];
-    let name = &record[47..name_end];
+    };
     let offset = u32_at(Order::Little, record, 33);
-    let refusal = u8_at(record, 37) as u32;
-    let start = u32_at(Order::Little, record, 38);
-    let length = u32_at(Order::Little, record, 42);
     let equal = u8_at(record, 59) == 1;
-    if !same_place(strings::string_at(strings, offset), refusal, start, length) {
-        return false;
-    }
-    strings::string_equals(strings, offset, name) == equal
+    strings::string_at(strings, offset) == place_recorded(record)
+        && strings::string_equals(strings, offset, name) == equal
 }
 
 fn main(rt: HostRuntime) -> io::Result<()> {

@@ -3,58 +3,40 @@
 #![tactic(auto)]
 
 use endian::kinds::Order;
+use endian::refusals::Refusal;
 use export::kinds::{class_of, order_of};
 use replay::replay;
 use std::io;
-use strings::StringAt;
-use symbol::table::{SymbolAt, SymbolIndex};
+use strings::Place;
+use symbol::table::SymbolIndex;
+use symbol_entry::Symbol;
 use word::{u8_at, u16_at, u32_at, u64_at};
 
 const RECORD: usize = 128;
 
-// Whether symbol_at gives the refusal or the fields that are recorded from byte 100 on.
-fn same_symbol(found: SymbolAt, record: &[u8]) -> bool {
-    let refusal = u8_at(record, 100) as u32;
-    match found {
-        SymbolAt::At(symbol) => {
-            if refusal != 0 {
-                return false;
-            }
-            if symbol.name != u32_at(Order::Little, record, 101) {
-                return false;
-            }
-            if symbol.value != u64_at(Order::Little, record, 105) {
-                return false;
-            }
-            if symbol.size != u64_at(Order::Little, record, 113) {
-                return false;
-            }
-            if symbol.info != u8_at(record, 121) {
-                return false;
-            }
-            if symbol.other != u8_at(record, 122) {
-                return false;
-            }
-            symbol.shndx == u16_at(Order::Little, record, 123)
-        }
-        SymbolAt::Refused(r) => r.0 == refusal,
+// What symbol_at gave: the refusal or the fields that are recorded from byte 100 on.
+fn symbol_recorded(record: &[u8]) -> Result<Symbol, Refusal> {
+    match u8_at(record, 100) {
+        0 => Ok(Symbol {
+            name: u32_at(Order::Little, record, 101),
+            value: u64_at(Order::Little, record, 105),
+            size: u64_at(Order::Little, record, 113),
+            info: u8_at(record, 121),
+            other: u8_at(record, 122),
+            shndx: u16_at(Order::Little, record, 123),
+        }),
+        refusal => Err(Refusal(refusal as u32)),
     }
 }
 
-// Whether symbol_name gives the refusal or the place that is recorded from byte 125 on.
-fn same_name(found: StringAt, record: &[u8]) -> bool {
-    let refusal = u8_at(record, 125) as u32;
-    match found {
-        StringAt::At { start, len } => {
-            if refusal != 0 {
-                return false;
-            }
-            if start != u8_at(record, 126) as usize {
-                return false;
-            }
-            len == u8_at(record, 127) as usize
-        }
-        StringAt::Refused(r) => r.0 == refusal,
+// What symbol_name gave: the refusal or the place that is recorded from byte 125 on.
+fn name_recorded(record: &[u8]) -> Result<Place, Refusal> {
+    match u8_at(record, 125) {
+        0 => Ok(Place {
+            start: u8_at(record, 126) as usize,
+            len: u8_at(record, 127) as usize,
+        }),
+        refusal => Err(Refusal(refusal as u32)),
     }
 }
 
@@ -63,21 +45,16 @@ fn agrees(record: &[u8]) -> bool {
     let order = order_of(u8_at(record, 1));
     let symbols_end = 3 + u8_at(record, 2) as usize;
     let strings_end = 88 + u8_at(record, 87) as usize;
-    if record.len() < symbols_end {
+    let Some(symbols) = record.get(3..symbols_end) else {
         return false;
-    }
-    if record.len() < strings_end {
+    };
+    let Some(strings) = record.get(88..strings_end) else {
         return false;
-    }
-    let symbols = &record[3..symbols_end];
-    let strings = &record[88..strings_end];
-    let number = u32_at(Order::Little, record, 83);
-    let found = symbol::table::symbol_at(class, order, symbols, SymbolIndex(number));
-    if !same_symbol(found, record) {
-        return false;
-    }
-    let named = symbol::table::symbol_name(class, order, symbols, strings, SymbolIndex(number));
-    same_name(named, record)
+    };
+    let index = SymbolIndex(u32_at(Order::Little, record, 83));
+    symbol::table::symbol_at(class, order, symbols, index) == symbol_recorded(record)
+        && symbol::table::symbol_name(class, order, symbols, strings, index)
+            == name_recorded(record)
 }
 
 fn main(rt: HostRuntime) -> io::Result<()> {

@@ -3,13 +3,16 @@
 #![tactic(auto)]
 
 use endian::kinds::Order;
+use endian::refusals::Refusal;
 use export::kinds::order_of;
-use replay::replay;
+use export_version_match::need_of;
+use replay::{part, part_at, replay};
 use std::io;
 use symbol::table::SymbolIndex;
-use version::table::{VersymAt, version_of};
-use version_match::{Need, matches};
-use version_parse::parse::{Parsed, parse};
+use version::index::VersionIndex;
+use version::table::{Versym, version_of};
+use version_match::matches;
+use version_parse::parse::parse;
 use word::{u8_at, u16_at, u32_at};
 
 const RECORD: usize = 288;
@@ -35,98 +38,50 @@ const ENTRIES: usize = 152;
 
 const MATCH: usize = 272;
 
-// A part of the record, or none of it where the record is too short.
-fn part(record: &[u8], start: usize, length: u8) -> &[u8] {
-    let n = length as usize;
-    if record.len() < start {
-        return &record[0..0];
-    }
-    if record.len() - start < n {
-        return &record[0..0];
-    }
-    let end = start + n;
-    &record[start..end]
-}
-
-fn same_answer(record: &[u8], parsed: Parsed) -> bool {
-    let refusal = u8_at(record, ANSWER) as u32;
-    match parsed {
-        Parsed::Highest(index) => {
-            if refusal != 0 {
-                return false;
-            }
-            index.0 == u16_at(Order::Little, record, ANSWER + 1)
-        }
-        Parsed::Refused(r) => r.0 == refusal,
+// The answer that is recorded: a refusal, or the highest index.
+fn recorded_answer(record: &[u8]) -> Result<VersionIndex, Refusal> {
+    match u8_at(record, ANSWER) {
+        0 => Ok(VersionIndex(u16_at(Order::Little, record, ANSWER + 1))),
+        refusal => Err(Refusal(refusal as u32)),
     }
 }
 
 // What a number of the store must be: those of the entries 2 to 6 are recorded, all others are 0.
-fn recorded(record: &[u8], i: usize) -> u32 {
-    if i < 12 {
-        return 0;
+fn recorded_number(record: &[u8], i: usize) -> u32 {
+    if 12 <= i && i < 42 {
+        u32_at(Order::Little, record, ENTRIES + (i - 12) * 4)
+    } else {
+        0
     }
-    if 42 <= i {
-        return 0;
-    }
-    u32_at(Order::Little, record, ENTRIES + (i - 12) * 4)
 }
 
 fn same_store(record: &[u8], store: &[u32]) -> bool {
-    if store.len() < LOOKED_AT {
-        return false;
-    }
-    let mut i = 0;
-    while i < LOOKED_AT {
-        if store[i] != recorded(record, i) {
-            return false;
-        }
-        i += 1;
-    }
-    true
+    store
+        .iter()
+        .take(LOOKED_AT)
+        .enumerate()
+        .all(|(i, number)| *number == recorded_number(record, i))
 }
 
-fn need_of(needed: u8, hash: u32) -> Need {
-    match needed {
-        0 => Need::Any,
-        _ => Need::Hash(hash),
-    }
-}
-
-// Whether the symbol's versym is the recorded one.
-fn same_versym(record: &[u8], found: VersymAt) -> bool {
+// The symbol's versym that is recorded.
+fn recorded_versym(record: &[u8]) -> Versym {
     let versym = u16_at(Order::Little, record, MATCH + 1);
-    match found {
-        VersymAt::At(v) => {
-            if v.index.0 != versym % 0x8000 {
-                return false;
-            }
-            v.hidden == (0x8000 <= versym)
-        }
-        VersymAt::Refused(_) => false,
+    Versym {
+        index: VersionIndex(versym % 0x8000),
+        hidden: 0x8000 <= versym,
     }
 }
 
 fn same_match(record: &[u8], order: Order, versyms: &[u8], store: &[u32], strings: &[u8]) -> bool {
-    let number = u8_at(record, MATCH) as u32;
-    if !same_versym(record, version_of(order, versyms, SymbolIndex(number))) {
-        return false;
-    }
+    let symbol = SymbolIndex(u8_at(record, MATCH) as u32);
     let need = need_of(
         u8_at(record, MATCH + 3),
         u32_at(Order::Little, record, MATCH + 4),
     );
-    let name = part(record, MATCH + 9, u8_at(record, MATCH + 8));
-    let met = matches(
-        order,
-        versyms,
-        store,
-        strings,
-        SymbolIndex(number),
-        need,
-        name,
-    );
-    met == (u8_at(record, MATCH + 13) == 1)
+    let name = part_at(record, MATCH + 8);
+    let met = matches(order, versyms, store, strings, symbol, need, name);
+    version_of(order, versyms, symbol) == Ok(recorded_versym(record))
+        && met == (u8_at(record, MATCH + 13) == 1)
 }
 
 fn agrees(record: &[u8]) -> bool {
@@ -137,16 +92,9 @@ fn agrees(record: &[u8]) -> bool {
     let strings = part(record, STRINGS, u8_at(record, 4));
     let mut store = [0xffff_ffffu32; STORE];
     let parsed = parse(order, verdef, verneed, strings, &mut store);
-    if !same_answer(record, parsed) {
-        return false;
-    }
-    if !same_store(record, &store) {
-        return false;
-    }
-    if u8_at(record, ANSWER) != 0 {
-        return true;
-    }
-    same_match(record, order, versyms, &store, strings)
+    parsed == recorded_answer(record)
+        && same_store(record, &store)
+        && (parsed.is_err() || same_match(record, order, versyms, &store, strings))
 }
 
 fn main(rt: HostRuntime) -> io::Result<()> {

@@ -1,2 +1,2 @@
--- `Records`: the ends of records, and their count.
+-- `Records`: which numbers are below the count.
 pub mod Records

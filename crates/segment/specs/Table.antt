@@ -4,17 +4,14 @@
 --     segment_count    how many whole records there are
 --     segment_at       the segment of a number
 -- Assumes nothing.
-use Rattle.std.specs.Prelude.{ℕ, ◌+◌, ◌*◌, ◌/◌, cond, List, leb, ltb, length}
+use Rattle.std.specs.Prelude.{ℕ, ◌+◌, ◌*◌, ◌/◌, cond, List, leb, ltb, length, Result, Ok, Err}
 use Rattle.endian.specs.declared.kinds.Class.{Class}
 use Rattle.endian.specs.declared.kinds.Class.TheVariants.{Elf32, Elf64}
 use Rattle.endian.specs.declared.kinds.Order.{Order}
+use Rattle.endian.specs.declared.refusals.Refusal.{Refusal}
 use Rattle.endian.specs.Refusals.{limit, too_long, no_segment}
 use Rattle.endian.specs.Word.{field_at}
 use Rattle.segment_entry.specs.declared.Segment.{Segment}
-use Rattle.segment.specs.declared.table.SegmentCount.{SegmentCount}
-use Rattle.segment.specs.declared.table.SegmentCount.TheVariants.{Segments, Refused as Count-as-Refused}
-use Rattle.segment.specs.declared.table.SegmentAt.{SegmentAt}
-use Rattle.segment.specs.declared.table.SegmentAt.TheVariants.{At, Refused}
 
 abbrev pub segment_size : Class → ℕ
 segment_size Elf32 = 32
@@ -30,12 +27,12 @@ segment_of Elf64 order s base =
     let g = field_at order s base 8 in
     record { kind = f 0; flags = f 4; offset = g 8; vaddr = g 16; paddr = g 24; filesz = g 32; memsz = g 40; align = g 48 }
 
-abbrev pub segment_count : Class → List ℕ → SegmentCount
-segment_count class s = cond (ltb limit (length s)) (Count-as-Refused too_long) (Segments (length s / segment_size class))
+abbrev pub segment_count : Class → List ℕ → Result ℕ Refusal
+segment_count class s = cond (ltb limit (length s)) (Err too_long) (Ok (length s / segment_size class))
 
 -- a number past the whole records is refused
-unfoldable pub segment_at : Class → Order → List ℕ → (number : ℕ) → SegmentAt
+unfoldable pub segment_at : Class → Order → List ℕ → (number : ℕ) → Result Segment Refusal
 segment_at class order s number =
-    cond (ltb limit (length s)) (Refused too_long)
-    (cond (leb ((number + 1) * segment_size class) (length s)) (At (segment_of class order s (number * segment_size class)))
-    (Refused no_segment))
+    cond (ltb limit (length s)) (Err too_long)
+    (cond (leb ((number + 1) * segment_size class) (length s)) (Ok (segment_of class order s (number * segment_size class)))
+    (Err no_segment))

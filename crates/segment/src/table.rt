@@ -1,24 +1,11 @@
 // A table of program headers: how many it has, and the one of a number.
 ghost use Rattle.std.specs.Prelude.{◌≡◌, ◌<◌};
-ghost use Rattle.endian.specs.declared.kinds.Class.TheVariants.{Elf32, Elf64};
 ghost use Rattle.segment.specs.Table.{segment_size, segment_of, segment_count, segment_at};
 
 use endian::kinds::{Class, Order};
 use endian::refusals::{LIMIT, NO_SEGMENT, Refusal, TOO_LONG};
 use segment_entry::Segment;
 use word::{u32_at, u64_at};
-
-#[derive(Clone, Copy)]
-pub enum SegmentCount {
-    Segments(u32),
-    Refused(Refusal),
-}
-
-#[derive(Clone, Copy)]
-pub enum SegmentAt {
-    At(Segment),
-    Refused(Refusal),
-}
 
 fn segment_size(class: Class) -> usize
     ensures { result ≡ segment_size class }
@@ -30,74 +17,57 @@ fn segment_size(class: Class) -> usize
 }
 
 // How many whole records there are; a shorter tail is ignored. Refused: a table that is too long.
-pub fn segment_count(class: Class, table: &[u8]) -> SegmentCount
+pub fn segment_count(class: Class, table: &[u8]) -> Result<u32, Refusal>
     ensures { result ≡ segment_count class table.now }
 {
     if LIMIT < table.len() {
-        return SegmentCount::Refused(TOO_LONG);
+        return Err(TOO_LONG);
     }
-    match class {
-        Class::Elf32 => SegmentCount::Segments((table.len() / 32) as u32),
-        Class::Elf64 => SegmentCount::Segments((table.len() / 56) as u32),
-    }
+    Ok((table.len() / segment_size(class)) as u32)
 }
 
-// The fields of the 32-bit record at a place. A byte past the end counts as 0.
-fn segment_32(order: Order, table: &[u8], base: usize) -> Segment
-    requires { base < 1099511627776 }
-    ensures { result ≡ segment_of Elf32 order table.now base }
-{
-    Segment {
-        kind: u32_at(order, table, base),
-        flags: u32_at(order, table, base + 24),
-        offset: u32_at(order, table, base + 4) as u64,
-        vaddr: u32_at(order, table, base + 8) as u64,
-        paddr: u32_at(order, table, base + 12) as u64,
-        filesz: u32_at(order, table, base + 16) as u64,
-        memsz: u32_at(order, table, base + 20) as u64,
-        align: u32_at(order, table, base + 28) as u64,
-    }
-}
-
-// The same of the 64-bit record.
-fn segment_64(order: Order, table: &[u8], base: usize) -> Segment
-    requires { base < 1099511627776 }
-    ensures { result ≡ segment_of Elf64 order table.now base }
-{
-    Segment {
-        kind: u32_at(order, table, base),
-        flags: u32_at(order, table, base + 4),
-        offset: u64_at(order, table, base + 8),
-        vaddr: u64_at(order, table, base + 16),
-        paddr: u64_at(order, table, base + 24),
-        filesz: u64_at(order, table, base + 32),
-        memsz: u64_at(order, table, base + 40),
-        align: u64_at(order, table, base + 48),
-    }
-}
-
+// The fields of the record at a place. A byte past the end counts as 0.
 fn segment_of(class: Class, order: Order, table: &[u8], base: usize) -> Segment
     requires { base < 1099511627776 }
     ensures { result ≡ segment_of class order table.now base }
 {
     match class {
-        Class::Elf32 => segment_32(order, table, base),
-        Class::Elf64 => segment_64(order, table, base),
+        Class::Elf32 => Segment {
+            kind: u32_at(order, table, base),
+            flags: u32_at(order, table, base + 24),
+            offset: u32_at(order, table, base + 4) as u64,
+            vaddr: u32_at(order, table, base + 8) as u64,
+            paddr: u32_at(order, table, base + 12) as u64,
+            filesz: u32_at(order, table, base + 16) as u64,
+            memsz: u32_at(order, table, base + 20) as u64,
+            align: u32_at(order, table, base + 28) as u64,
+        },
+        Class::Elf64 => Segment {
+            kind: u32_at(order, table, base),
+            flags: u32_at(order, table, base + 4),
+            offset: u64_at(order, table, base + 8),
+            vaddr: u64_at(order, table, base + 16),
+            paddr: u64_at(order, table, base + 24),
+            filesz: u64_at(order, table, base + 32),
+            memsz: u64_at(order, table, base + 40),
+            align: u64_at(order, table, base + 48),
+        },
     }
 }
 
 // The segment of a number. Refused in this order: a table that is too long; a number with no whole
 // record.
-pub fn segment_at(class: Class, order: Order, table: &[u8], number: u32) -> SegmentAt
+#[tactic(auto, unfolding(crate::specs::Table::segment_at))]
+pub fn segment_at(class: Class, order: Order, table: &[u8], number: u32) -> Result<Segment, Refusal>
     ensures { result ≡ segment_at class order table.now number }
 {
     if LIMIT < table.len() {
-        return SegmentAt::Refused(TOO_LONG);
+        return Err(TOO_LONG);
     }
     let at = number as usize;
     let record = segment_size(class);
     if table.len() < (at + 1) * record {
-        return SegmentAt::Refused(NO_SEGMENT);
+        return Err(NO_SEGMENT);
     }
-    SegmentAt::At(segment_of(class, order, table, at * record))
+    Ok(segment_of(class, order, table, at * record))
 }

@@ -4,31 +4,29 @@
 --     is_here               whether an address range is among the file bytes, which start at vaddr
 --     segment_data_range    the bytes of an address range, as a place in the file
 -- Assumes nothing.
-use Rattle.std.specs.Prelude.{ℕ, ◌+◌, ◌-◌, Bool, cond, not, ◌&&◌, List, leb, ltb, length}
+use Rattle.std.specs.Prelude.{ℕ, ◌+◌, ◌-◌, Bool, cond, not, ◌&&◌, List, leb, ltb, length, Result, Ok, Err, Option, Some, None}
+use Rattle.endian.specs.declared.refusals.Refusal.{Refusal}
 use Rattle.endian.specs.Refusals.{limit, too_long, bad_segment_data}
+use Rattle.strings.specs.declared.Place.{Place}
 use Rattle.segment_entry.specs.declared.Segment.{Segment}
-use Rattle.segment_data.specs.declared.part.SegmentData.{SegmentData}
-use Rattle.segment_data.specs.declared.part.SegmentData.TheVariants.{At, Refused}
-use Rattle.segment_data.specs.declared.part.SegmentDataRange.{SegmentDataRange}
-use Rattle.segment_data.specs.declared.part.SegmentDataRange.TheVariants.{At as Range-as-At, NotHere, Refused as Range-as-Refused}
 
 -- an offset no more than the length, also for filesz 0
 unfoldable pub is_in_file : List ℕ → Segment → Bool
 is_in_file file segment = leb (segment.offset + segment.filesz) (length file)
 
-abbrev pub segment_data : List ℕ → Segment → SegmentData
+abbrev pub segment_data : List ℕ → Segment → Result Place Refusal
 segment_data file segment =
-    cond (ltb limit (length file)) (Refused too_long)
-    (cond (is_in_file file segment) (At segment.offset segment.filesz)
-    (Refused bad_segment_data))
+    cond (ltb limit (length file)) (Err too_long)
+    (cond (is_in_file file segment) (Ok (record { start = segment.offset; len = segment.filesz }))
+    (Err bad_segment_data))
 
 -- it does not begin below vaddr, and does not reach past the file bytes
 unfoldable pub is_here : Segment → (address size : ℕ) → Bool
 is_here segment address size = leb segment.vaddr address && leb (address + size) (segment.vaddr + segment.filesz)
 
-abbrev pub segment_data_range : List ℕ → Segment → (address size : ℕ) → SegmentDataRange
+abbrev pub segment_data_range : List ℕ → Segment → (address size : ℕ) → Result (Option Place) Refusal
 segment_data_range file segment address size =
-    cond (ltb limit (length file)) (Range-as-Refused too_long)
-    (cond (not (is_in_file file segment)) (Range-as-Refused bad_segment_data)
-    (cond (is_here segment address size) (Range-as-At (segment.offset + (address - segment.vaddr)) size)
-    NotHere))
+    cond (ltb limit (length file)) (Err too_long)
+    (cond (not (is_in_file file segment)) (Err bad_segment_data)
+    (cond (is_here segment address size) (Ok (Some (record { start = segment.offset + (address - segment.vaddr); len = size })))
+    (Ok None)))

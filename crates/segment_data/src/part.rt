@@ -4,22 +4,10 @@ ghost use Rattle.segment_data.specs.Part.{is_in_file, is_here, segment_data, seg
 
 use endian::refusals::{BAD_SEGMENT_DATA, LIMIT, Refusal, TOO_LONG};
 use segment_entry::Segment;
-
-// A part of the lent file.
-#[derive(Clone, Copy)]
-pub enum SegmentData {
-    At { start: usize, len: usize },
-    Refused(Refusal),
-}
-
-#[derive(Clone, Copy)]
-pub enum SegmentDataRange {
-    At { start: usize, len: usize },
-    NotHere,
-    Refused(Refusal),
-}
+use strings::Place;
 
 // Whether the segment's bytes are all in the file. Offset and size may be any numbers.
+#[tactic(auto, unfolding(crate::specs::Part::is_in_file))]
 pub fn is_in_file(file: &[u8], segment: Segment) -> bool
     ensures { result ≡ is_in_file file.now segment }
 {
@@ -31,6 +19,7 @@ pub fn is_in_file(file: &[u8], segment: Segment) -> bool
 }
 
 // Whether the segment's file bytes have the addresses from `address` on.
+#[tactic(auto, unfolding(crate::specs::Part::is_here))]
 fn is_here(segment: Segment, address: u64, size: u64) -> bool
     ensures { result ≡ is_here segment address size }
 {
@@ -44,45 +33,41 @@ fn is_here(segment: Segment, address: u64, size: u64) -> bool
     size <= segment.filesz - from
 }
 
-// The segment's bytes. Refused in this order: a file that is too long; bytes that are not all in it.
-pub fn segment_data(file: &[u8], segment: Segment) -> SegmentData
+// The segment's bytes, as a part of the lent file. Refused in this order: a file that is too long;
+// bytes that are not all in it.
+pub fn segment_data(file: &[u8], segment: Segment) -> Result<Place, Refusal>
     ensures { result ≡ segment_data file.now segment }
 {
     if LIMIT < file.len() {
-        return SegmentData::Refused(TOO_LONG);
+        return Err(TOO_LONG);
     }
     if !is_in_file(file, segment) {
-        return SegmentData::Refused(BAD_SEGMENT_DATA);
+        return Err(BAD_SEGMENT_DATA);
     }
-    SegmentData::At {
+    Ok(Place {
         start: segment.offset as usize,
         len: segment.filesz as usize,
-    }
+    })
 }
 
 // The bytes of an address range: not here if it begins below the segment's address or reaches past
 // its file bytes. Refused first, as `segment_data`.
+#[tactic(auto, unfolding(crate::specs::Part::is_in_file, crate::specs::Part::is_here))]
 pub fn segment_data_range(
     file: &[u8],
     segment: Segment,
     address: u64,
     size: u64,
-) -> SegmentDataRange
+) -> Result<Option<Place>, Refusal>
     ensures { result ≡ segment_data_range file.now segment address size }
 {
-    if LIMIT < file.len() {
-        return SegmentDataRange::Refused(TOO_LONG);
-    }
-    if !is_in_file(file, segment) {
-        return SegmentDataRange::Refused(BAD_SEGMENT_DATA);
-    }
+    let data = segment_data(file, segment)?;
     if !is_here(segment, address, size) {
-        return SegmentDataRange::NotHere;
+        return Ok(None);
     }
     let from = address - segment.vaddr;
-    let start = segment.offset + from;
-    SegmentDataRange::At {
-        start: start as usize,
+    Ok(Some(Place {
+        start: data.start + from as usize,
         len: size as usize,
-    }
+    }))
 }

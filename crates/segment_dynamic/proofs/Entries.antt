@@ -1,15 +1,9 @@
 -- The dynamic entries of either class. Assumes nothing.
---     end_fits                    the end of an entry of a 32-bit number fits 64 bits
 --     whole_count, count_whole    a whole entry stands at a number exactly if it is below the count
-use Prim.Native.Nat.{ℕ, ◌+◌, ◌*◌, ◌/◌, ◌^◌, ◌<◌, ◌≤◌}
-use native.Mathlib.Omega.{arith}
+use Rattle.std.proofs.Common.{ℕ, ◌+◌, ◌*◌, ◌/◌, ◌<◌, ◌≤◌, arith}
 use Rattle.endian.specs.declared.kinds.Class.{Class}
 use Rattle.endian.specs.declared.kinds.Class.TheVariants.{Elf32, Elf64}
 use Rattle.segment_dynamic.specs.Dynamic.{dynamic_size}
-
-pub end_fits : (class : Class) (n : ℕ) → n < 2 ^ 32 → (n + 1) * dynamic_size class < 2 ^ 64
-end_fits Elf32 n h = omega arith
-end_fits Elf64 n h = omega arith
 
 pub whole_count : (class : Class) (n len : ℕ) → (n + 1) * dynamic_size class ≤ len → n < len / dynamic_size class
 whole_count Elf32 n len h = omega arith

@@ -1,2 +1,2 @@
--- `Entries`: the ends of dynamic entries, and their count.
+-- `Entries`: which numbers are below the count.
 pub mod Entries

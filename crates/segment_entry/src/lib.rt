@@ -15,7 +15,7 @@ pub const PT_INTERP: u32 = 3;
 pub const PT_NOTE: u32 = 4;
 
 // A program header. Offsets, addresses and sizes have 64 bits in either class.
-#[derive(Clone, Copy)]
+#[derive(Clone, Copy, Debug, PartialEq, Eq)]
 pub struct Segment {
     pub kind: u32,
     pub flags: u32,
@@ -28,14 +28,14 @@ pub struct Segment {
 }
 
 // Where a segment says that its bytes stand in the file.
-#[derive(Clone, Copy)]
+#[derive(Clone, Copy, Debug, PartialEq, Eq)]
 pub struct FileRange {
     pub offset: u64,
     pub size: u64,
 }
 
 // What a program may do with a segment in memory.
-#[derive(Clone, Copy)]
+#[derive(Clone, Copy, Debug, PartialEq, Eq)]
 pub struct Permissions {
     pub readable: bool,
     pub writable: bool,
@@ -43,7 +43,7 @@ pub struct Permissions {
 }
 
 // The types that this crate tells apart.
-#[derive(Clone, Copy)]
+#[derive(Clone, Copy, Debug, PartialEq, Eq)]
 pub enum SegmentKind {
     Load,
     Dynamic,
@@ -77,18 +77,12 @@ impl Segment {
     pub fn known_kind(self) -> SegmentKind
         ensures { result ≡ kind_of self }
     {
-        if self.kind == PT_LOAD {
-            return SegmentKind::Load;
+        match self.kind {
+            PT_LOAD => SegmentKind::Load,
+            PT_DYNAMIC => SegmentKind::Dynamic,
+            PT_INTERP => SegmentKind::Interpreter,
+            PT_NOTE => SegmentKind::Note,
+            _ => SegmentKind::Other,
         }
-        if self.kind == PT_DYNAMIC {
-            return SegmentKind::Dynamic;
-        }
-        if self.kind == PT_INTERP {
-            return SegmentKind::Interpreter;
-        }
-        if self.kind == PT_NOTE {
-            return SegmentKind::Note;
-        }
-        SegmentKind::Other
     }
 }

@@ -3,24 +3,24 @@
 --     up_to_zero             the front part of some bytes of the file, up to their first zero
 --     segment_interpreter    the interpreter's name, as a place in the file
 -- Assumes nothing.
-use Rattle.std.specs.Prelude.{ℕ, cond, not, List, eqb, ltb, length, take, drop}
+use Rattle.std.specs.Prelude.{ℕ, cond, not, List, eqb, ltb, length, take, drop, Result, Ok, Err, Option, Some, None}
 use Rattle.endian.specs.First.{first, is_zero, readable}
+use Rattle.endian.specs.declared.refusals.Refusal.{Refusal}
 use Rattle.endian.specs.Refusals.{limit, too_long, bad_interpreter_place, endless_interpreter}
+use Rattle.strings.specs.declared.Place.{Place}
 use Rattle.segment_data.specs.Part.{is_in_file}
 use Rattle.segment_entry.specs.declared.Segment.{Segment}
-use Rattle.segment_parts.specs.declared.interpreter.SegmentInterpreter.{SegmentInterpreter}
-use Rattle.segment_parts.specs.declared.interpreter.SegmentInterpreter.TheVariants.{At, NotThisKind, Refused}
 
 abbrev pub segment_bytes : List ℕ → Segment → List ℕ
 segment_bytes file segment = take segment.filesz (drop segment.offset file)
 
-abbrev pub up_to_zero : (start : ℕ) → List ℕ → SegmentInterpreter
-up_to_zero start bytes = cond (readable bytes) (At start (first is_zero bytes)) (Refused endless_interpreter)
+abbrev pub up_to_zero : (start : ℕ) → List ℕ → Result (Option Place) Refusal
+up_to_zero start bytes = cond (readable bytes) (Ok (Some (record { start = start; len = first is_zero bytes }))) (Err endless_interpreter)
 
 -- only for type PT_INTERP, which is 3
-abbrev pub segment_interpreter : List ℕ → Segment → SegmentInterpreter
+abbrev pub segment_interpreter : List ℕ → Segment → Result (Option Place) Refusal
 segment_interpreter file segment =
-    cond (ltb limit (length file)) (Refused too_long)
-    (cond (not (eqb segment.kind 3)) NotThisKind
+    cond (ltb limit (length file)) (Err too_long)
+    (cond (not (eqb segment.kind 3)) (Ok None)
     (cond (is_in_file file segment) (up_to_zero segment.offset (segment_bytes file segment))
-    (Refused bad_interpreter_place)))
+    (Err bad_interpreter_place)))

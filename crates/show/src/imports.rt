@@ -5,10 +5,11 @@ use super::sample::{strings, table};
 use super::text::{put, put_left, put_number, put_refusal};
 use super::versions::put_version;
 use endian::kinds::{Class, Order};
+use endian::refusals::Refusal;
 use gnu::find::find;
-use lookup::Answer;
-use marks::{MarksAt, marks_of};
-use name_hash::{NameHash, gnu_hash, sysv_hash};
+use lookup::{Asked, Lookup, Parts};
+use marks::{Marks, marks_of};
+use name_hash::{gnu_hash, sysv_hash};
 use std::io;
 use version_match::Need;
 
@@ -19,42 +20,46 @@ fn found(
     hash: u32,
     need: Need,
     version: &[u8],
-) -> Answer {
+) -> Result<Lookup, Refusal> {
+    let table = table();
+    let symbols = symbols(change);
     let names = strings();
-    find(
-        Class::Elf64,
-        Order::Little,
-        &table(),
-        &symbols(change),
-        &names,
-        &versyms(change),
+    let versyms = versyms(change);
+    let parts = Parts {
+        table: &table,
+        symbols: &symbols,
+        strings: &names,
+        versyms: &versyms,
         store,
-        &names,
+        version_strings: &names,
+    };
+    let asked = Asked {
         name,
-        hash,
         need,
-        version,
-    )
+        need_name: version,
+    };
+    find(Class::Elf64, Order::Little, parts, asked, hash)
 }
 
-// Symbol, version and probes; a refusal is that of the marks.
-fn put_answer(rt: &impl Print, change: Change, store: &[u32], answer: Answer) -> io::Result<()> {
-    match answer {
-        Answer::Found(symbol, probes) => {
+// Symbol, version and probes.
+fn put_lookup(rt: &impl Print, change: Change, store: &[u32], lookup: Lookup) -> io::Result<()> {
+    match lookup.symbol {
+        Some(symbol) => {
             put_number(rt, symbol.0 as u64, 6)?;
             put(rt, b"  ")?;
             put_version(rt, change, store, symbol)?;
-            put_number(rt, probes as u64, 6)
         }
-        Answer::Missing(probes) => {
-            put(rt, b"  none  missing  ")?;
-            put_number(rt, probes as u64, 6)
-        }
-        Answer::Refused(_) => Ok(()),
+        None => put(rt, b"  none  missing  ")?,
     }
+    put_number(rt, lookup.probes as u64, 6)
 }
 
-fn marks_at(change: Change, name: &[u8], need: Need, answer: Answer) -> MarksAt {
+fn marks_at(
+    change: Change,
+    name: &[u8],
+    need: Need,
+    answer: Result<Lookup, Refusal>,
+) -> Result<Marks, Refusal> {
     marks_of(
         Class::Elf64,
         Order::Little,
@@ -76,16 +81,18 @@ fn put_line(
     need: Need,
     version: &[u8],
 ) -> io::Result<()> {
-    match gnu_hash(name) {
-        NameHash::Hash(hash) => {
-            let answer = found(change, store, name, hash, need, version);
-            put_answer(rt, change, store, answer)?;
-            match marks_at(change, name, need, answer) {
-                MarksAt::At(marks) => put_marks(rt, change, store, name, marks),
-                MarksAt::Refused(refusal) => put_refusal(rt, refusal.0),
-            }
-        }
-        NameHash::Refused(refusal) => put_refusal(rt, refusal.0),
+    let hash = match gnu_hash(name) {
+        Ok(hash) => hash,
+        Err(refusal) => return put_refusal(rt, refusal),
+    };
+    let answer = found(change, store, name, hash, need, version);
+    // A refusal is that of the marks.
+    if let Ok(lookup) = answer {
+        put_lookup(rt, change, store, lookup)?;
+    }
+    match marks_at(change, name, need, answer) {
+        Ok(marks) => put_marks(rt, change, store, name, marks),
+        Err(refusal) => put_refusal(rt, refusal),
     }
 }
 
@@ -100,8 +107,8 @@ pub(crate) fn import(
     put_left(rt, name, 12)?;
     put_left(rt, version, 10)?;
     match sysv_hash(version) {
-        NameHash::Hash(hash) => put_line(rt, change, store, name, Need::Hash(hash), version),
-        NameHash::Refused(refusal) => put_refusal(rt, refusal.0),
+        Ok(hash) => put_line(rt, change, store, name, Need::Hash(hash), version),
+        Err(refusal) => put_refusal(rt, refusal),
     }
 }
 

@@ -1,7 +1,7 @@
 // The library of the sample, as it is or changed by hand in one place.
 use super::sample;
 
-#[derive(Clone, Copy)]
+#[derive(Clone, Copy, Debug, PartialEq, Eq)]
 pub(crate) enum Change {
     None,
     Undefined,

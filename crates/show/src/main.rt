@@ -11,12 +11,12 @@ mod versions;
 
 use endian::kinds::{Class, Order};
 use gnu_check::check::check;
-use gnu_rules::Checked;
+use gnu_rules::Fault;
 use imports::{import, import_any};
 use library::Change;
 use std::io;
 use text::{put, put_number, put_refusal};
-use version_parse::parse::{Parsed, parse};
+use version_parse::parse::parse;
 
 // The checker's verdict: whether the table can be relied on.
 fn put_verdict(rt: &impl Print, table: &[u8]) -> io::Result<bool> {
@@ -27,13 +27,13 @@ fn put_verdict(rt: &impl Print, table: &[u8]) -> io::Result<bool> {
         &sample::symbols(),
         &sample::strings(),
     ) {
-        Checked::Accepted(longest) => {
+        Ok(longest) => {
             put(rt, b"accepted; its longest chain has ")?;
             put_number(rt, longest as u64, 0)?;
             put(rt, b" symbols.\n")?;
             Ok(true)
         }
-        Checked::Broken(rule, place) => {
+        Err(Fault::Broken { rule, place }) => {
             put(rt, b"NOT ACCEPTED; rule G")?;
             put_number(rt, rule as u64, 0)?;
             put(rt, b" is broken, at place ")?;
@@ -41,8 +41,8 @@ fn put_verdict(rt: &impl Print, table: &[u8]) -> io::Result<bool> {
             put(rt, b". No import is to be signed by it.\n")?;
             Ok(false)
         }
-        Checked::Refused(refusal) => {
-            put_refusal(rt, refusal.0)?;
+        Err(Fault::Refused(refusal)) => {
+            put_refusal(rt, refusal)?;
             Ok(false)
         }
     }
@@ -121,8 +121,8 @@ fn put_library(rt: &impl Print) -> io::Result<()> {
         &sample::strings(),
         &mut store,
     ) {
-        Parsed::Highest(_) => put_imports(rt, &store),
-        Parsed::Refused(refusal) => put_refusal(rt, refusal.0),
+        Ok(_) => put_imports(rt, &store),
+        Err(refusal) => put_refusal(rt, refusal),
     }
 }
 

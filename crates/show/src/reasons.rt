@@ -8,7 +8,7 @@ use endian::kinds::{Class, Order};
 use marks::Marks;
 use marks_entry::EntryMarks;
 use std::io;
-use symbol::table::{SymbolCount, SymbolIndex, symbol_count};
+use symbol::table::{SymbolIndex, symbol_count};
 
 fn put_if(rt: &impl Print, truth: bool, reason: &[u8]) -> io::Result<()> {
     if truth {
@@ -112,7 +112,7 @@ pub(crate) fn put_marks(
     put_reasons(rt, marks)?;
     put(rt, b"    The library's definitions of the routine:\n")?;
     match symbol_count(Class::Elf64, &symbols(change)) {
-        SymbolCount::Symbols(end) => put_definitions(rt, change, store, name, end),
-        SymbolCount::Refused(refusal) => put_refusal(rt, refusal.0),
+        Ok(end) => put_definitions(rt, change, store, name, end),
+        Err(refusal) => put_refusal(rt, refusal),
     }
 }

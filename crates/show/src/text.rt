@@ -1,4 +1,5 @@
 // Words and numbers on the standard output.
+use endian::refusals::Refusal;
 use std::io;
 
 pub(crate) fn put(rt: &impl Print, text: &[u8]) -> io::Result<()> {
@@ -29,8 +30,6 @@ pub(crate) fn put_number(rt: &impl Print, n: u64, width: usize) -> io::Result<()
     print!(rt; "{n:>width$}")
 }
 
-pub(crate) fn put_refusal(rt: &impl Print, number: u32) -> io::Result<()> {
-    put(rt, b"refused, number ")?;
-    put_number(rt, number as u64, 0)?;
-    put(rt, b"\n")
+pub(crate) fn put_refusal(rt: &impl Print, refusal: Refusal) -> io::Result<()> {
+    println!(rt; "{refusal}")
 }

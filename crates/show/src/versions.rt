@@ -7,7 +7,7 @@ use std::io;
 use symbol::table::SymbolIndex;
 use version::index::VersionIndex;
 use version::store::Part;
-use version::table::{EntryAt, Versym, VersymAt, entry, version_of};
+use version::table::{Versym, entry, version_of};
 
 fn put_part(rt: &impl Print, part: Part, width: usize) -> io::Result<()> {
     let text = strings();
@@ -21,9 +21,9 @@ fn put_part(rt: &impl Print, part: Part, width: usize) -> io::Result<()> {
 
 fn put_entry(rt: &impl Print, store: &[u32], index: VersionIndex, width: usize) -> io::Result<()> {
     match entry(store, &strings(), index) {
-        EntryAt::Special => put_left(rt, b"none", width),
-        EntryAt::At(version) => put_part(rt, version.name, width),
-        EntryAt::Refused(refusal) => put_refusal(rt, refusal.0),
+        Ok(Some(version)) => put_part(rt, version.name, width),
+        Ok(None) => put_left(rt, b"none", width),
+        Err(refusal) => put_refusal(rt, refusal),
     }
 }
 
@@ -34,8 +34,8 @@ pub(crate) fn put_version(
     symbol: SymbolIndex,
 ) -> io::Result<()> {
     match version_of(Order::Little, &versyms(change), symbol) {
-        VersymAt::At(versym) => put_entry(rt, store, versym.index, 9),
-        VersymAt::Refused(refusal) => put_refusal(rt, refusal.0),
+        Ok(versym) => put_entry(rt, store, versym.index, 9),
+        Err(refusal) => put_refusal(rt, refusal),
     }
 }
 
@@ -66,7 +66,7 @@ pub(crate) fn put_definition(
     put(rt, b"        symbol ")?;
     put_number(rt, symbol.0 as u64, 0)?;
     match version_of(Order::Little, &versyms(change), symbol) {
-        VersymAt::At(versym) => put_versym(rt, store, versym),
-        VersymAt::Refused(refusal) => put_refusal(rt, refusal.0),
+        Ok(versym) => put_versym(rt, store, versym),
+        Err(refusal) => put_refusal(rt, refusal),
     }
 }

@@ -1,16 +1,8 @@
 -- A string that was read lies in the strings, and these are not too long. Assumes nothing.
-use Prim.Native.Nat.{ℕ, ◌+◌, ◌≤◌, ◌<◌}
-use mathlib.Core.Path.{◌≡◌, refl, ap}
-use mathlib.Core.Bool.{Bool, true, false, cond}
-use mathlib.Core.List.{List}
-use native.Mathlib.Omega.{arith}
-use lib.Dec.{ltb}
-use lib.ListN.{length, drop, length-drop}
-use borrow.Author.Tests.{ltb-true, ltb-false}
+use Rattle.std.proofs.Common.{ℕ, ◌+◌, ◌≤◌, ◌<◌, ◌≡◌, refl, ap, Bool, true, false, cond, List, arith, ltb, length, drop, length-drop, ltb-true, ltb-false, Result, Ok, Err}
 use Rattle.endian.specs.First.{first, is_zero, readable}
 use Rattle.endian.specs.Refusals.{limit, too_long, no_string}
 use Rattle.strings.specs.Strings.{string_at}
-use Rattle.std.specs.Prelude.{Result, Ok, Err}
 use Rattle.endian.specs.declared.refusals.Refusal.{Refusal}
 use Rattle.strings.specs.declared.Place.{Place}
 

@@ -4,16 +4,9 @@
 --     equals_refused              one that is not
 --     equals_long, equals_reads   `string_equals` by the bytes from the offset on
 -- Assumes nothing.
-use Prim.Native.Nat.{ℕ, ◌<◌, ◌≤◌}
-use mathlib.Core.Path.{◌≡◌, refl, sym, ◌∙◌, ap}
-use mathlib.Core.Bool.{Bool, true, false, cond, ◌&&◌}
-use mathlib.Core.List.{List, [], ◌∷◌}
-use lib.Dec.{eqb}
-use lib.ListN.{length, take, drop}
-use borrow.Author.Tests.{eq-eqb, eqb-true, lt-ltb, le-ltb}
+use Rattle.std.proofs.Common.{ℕ, ◌<◌, ◌≤◌, ◌≡◌, refl, sym, ◌∙◌, ap, Bool, true, false, cond, ◌&&◌, List, [], ◌∷◌, eqb, length, take, drop, eq-eqb, eqb-true, lt-ltb, le-ltb, Ok, Err}
 pub use Rattle.endian.proofs.Falsity.{false_true}
 use Rattle.endian.specs.declared.refusals.Refusal.{Refusal}
-use Rattle.std.specs.Prelude.{Ok, Err}
 use Rattle.strings.specs.declared.Place.{Place}
 use Rattle.endian.specs.First.{first, is_zero, readable, same}
 use Rattle.endian.specs.Refusals.{limit, no_string}

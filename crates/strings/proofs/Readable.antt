@@ -6,17 +6,8 @@
 --     after_whole              where the search begins
 --     after_last               the place after the zero that the library's search from the end finds, or 0
 -- Assumes nothing.
-use Prim.Native.Nat.{ℕ, zero, suc, ◌+◌, ◌-◌, ◌≤◌, ◌<◌}
-use mathlib.Core.Path.{◌≡◌, refl, sym, ap, ◌∙◌}
-use mathlib.Core.Bool.{Bool, true, false, cond}
-use mathlib.Core.List.{List, [], ◌∷◌, ◌++◌}
-use native.Mathlib.Omega.{arith}
-use lib.Dec.{ltb}
-use lib.ListN.{length, get_or, take, drop, length-drop}
-use lib.Seq.{take-suc, take-length, length-take-le}
-use borrow.Author.Tests.{eq-eqb, eqb-true, ne_eqb, ltb-true, ltb-false, lt-ltb, le-ltb}
-use native.Mathlib.Nat.{add-zero}
-use Rattle.std.specs.Prelude.{Option, Some, None, MatchOption}
+use Rattle.std.proofs.Common.{ℕ, zero, suc, ◌+◌, ◌-◌, ◌≤◌, ◌<◌, ◌≡◌, refl, sym, ap, ◌∙◌, Bool, true, false, cond, List, [], ◌∷◌, ◌++◌, arith, ltb, length, get_or, take, drop, length-drop, take-suc, length-take-le, eq-eqb, eqb-true, ne_eqb, ltb-true, ltb-false, lt-ltb, le-ltb, add-zero, Option, Some, None, MatchOption}
+use lib.Seq.{take-length}
 use Rattle.memchr.specs.Find.{IsLastByte, is_byte}
 use Rattle.endian.specs.First.{first, is_zero, readable}
 use Rattle.strings.specs.AfterZero.{after_zero}

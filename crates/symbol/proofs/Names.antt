@@ -1,16 +1,9 @@
 -- The name of a symbol, by the length of its strings: the symbols' own length is `symbol_at`'s to refuse. Assumes nothing.
 --     symbol_name_long, symbol_name_fits    the strings are too long, or fit
-use Prim.Native.Nat.{ℕ, ◌<◌, ◌≤◌}
-use mathlib.Core.Path.{◌≡◌, refl}
-use mathlib.Core.Bool.{Bool, true, false, cond}
-use mathlib.Core.List.{List}
-use lib.Dec.{ltb}
-use lib.ListN.{length}
-use borrow.Author.Tests.{lt-ltb, le-ltb}
+use Rattle.std.proofs.Common.{ℕ, ◌<◌, ◌≤◌, ◌≡◌, refl, Bool, true, false, cond, List, ltb, length, lt-ltb, le-ltb, Result, Err}
 use Rattle.endian.specs.declared.kinds.Class.{Class}
 use Rattle.endian.specs.declared.kinds.Order.{Order}
 use Rattle.endian.specs.Refusals.{limit, too_long}
-use Rattle.std.specs.Prelude.{Result, Err}
 use Rattle.endian.specs.declared.refusals.Refusal.{Refusal}
 use Rattle.strings.specs.declared.Place.{Place}
 use Rattle.symbol_entry.specs.declared.Symbol.{Symbol}

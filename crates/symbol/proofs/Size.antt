@@ -1,8 +1,7 @@
 -- The records of either class. Assumes nothing.
 --     end_fits                    the end of a record of a 32-bit number fits 64 bits
 --     whole_count, count_whole    a whole record stands at a number exactly if it is below the count
-use Prim.Native.Nat.{ℕ, ◌+◌, ◌*◌, ◌/◌, ◌^◌, ◌<◌, ◌≤◌}
-use native.Mathlib.Omega.{arith}
+use Rattle.std.proofs.Common.{ℕ, ◌+◌, ◌*◌, ◌/◌, ◌^◌, ◌<◌, ◌≤◌, arith}
 use Rattle.endian.specs.declared.kinds.Class.{Class}
 use Rattle.endian.specs.declared.kinds.Class.TheVariants.{Elf32, Elf64}
 use Rattle.symbol.specs.Table.{symbol_size}

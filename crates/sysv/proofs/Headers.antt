@@ -2,10 +2,8 @@
 --     find_from, find_from_lem    the lookup
 --     lookup_none, lookup_walk    the lookup by the numbers of the header: without buckets, or a walk from the hash's bucket
 -- Assumes nothing.
-use Rattle.std.specs.Prelude.{ℕ, ◌+◌, ◌*◌, ◌%◌, ◌≡◌, Bool, true, false, cond, List, [], ◌∷◌, ltb, length, Result, Ok, Err}
-use Rattle.std.proofs.Common.{refl}
+use Rattle.std.proofs.Common.{refl, ℕ, ◌+◌, ◌*◌, ◌%◌, ◌≡◌, Bool, true, false, cond, List, [], ◌∷◌, ltb, length, Result, Ok, Err, eq-eqb, ne_eqb}
 use Rattle.std.proofs.Math.Option.{Option, some, none}
-use borrow.Author.Tests.{eq-eqb, ne_eqb}
 use Rattle.endian.specs.declared.kinds.Class.{Class}
 use Rattle.endian.specs.declared.kinds.Order.{Order}
 use Rattle.endian.specs.declared.refusals.Refusal.{Refusal}

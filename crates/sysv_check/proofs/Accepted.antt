@@ -3,16 +3,8 @@
 --     accepted     that theorem
 --     sysv_last    two lookups that state different versions never get one symbol
 -- Assumes nothing.
-use Prim.Native.Nat.{ℕ, suc, ◌%◌, ◌≤◌, ◌<◌}
-use mathlib.Core.Path.{◌≡◌, refl, sym, ap, ◌∙◌}
-use mathlib.Core.Bool.{Bool, true, false, cond, true≢false}
-use mathlib.Core.List.{List, [], ◌∷◌}
+use Rattle.std.proofs.Common.{ℕ, suc, ◌%◌, ◌≤◌, ◌<◌, ◌≡◌, refl, sym, ap, ◌∙◌, Bool, true, false, cond, true≢false, List, [], ◌∷◌, arith, mod-lt, ltb, length, eq-eqb, ne_eqb, Result, Ok, Err}
 use mathlib.Core.Option.{Option, some, none}
-use native.Mathlib.Omega.{arith}
-use native.Mathlib.Nat.{mod-lt}
-use lib.Dec.{ltb}
-use lib.ListN.{length}
-use borrow.Author.Tests.{eq-eqb, ne_eqb}
 use Rattle.endian.specs.declared.kinds.Class.{Class}
 use Rattle.endian.specs.declared.kinds.Order.{Order}
 use Rattle.endian.specs.declared.refusals.Refusal.{Refusal}
@@ -21,7 +13,6 @@ use Rattle.strings.proofs.Meaning.{same_refl}
 use Rattle.symbol.specs.Table.{symbol_index}
 use Rattle.name_hash.specs.Hash.{sysv_hash}
 use Rattle.lookup.specs.declared.Lookup.{Lookup}
-use Rattle.std.specs.Prelude.{Result, Ok, Err}
 use Rattle.lookup.specs.Pick.{first_of, up_to}
 use Rattle.lookup.specs.Matches.{Matches}
 use Rattle.lookup.specs.Wanted.{Parts, Asked, all_parts, wanted, wanted_in, walk, answer_after, found as found_at}

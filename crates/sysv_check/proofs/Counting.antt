@@ -7,16 +7,7 @@
 --                                      of how often each number of the run stands in it
 --     all_ones    k summands of at most 1 that add up to k are all 1
 -- Assumes nothing.
-use mathlib.Core.Path.{◌≡◌, refl, sym, ap, ◌∙◌, subst}
-use mathlib.Core.Bool.{Bool, true, cond}
-use mathlib.Core.Logic.{⊎_elim}
-use mathlib.Core.List.{List, [], ◌∷◌, ◌++◌}
-use Prim.Native.Nat.{ℕ, zero, suc, ◌+◌, ◌≤◌, ◌<◌}
-use native.Mathlib.Omega.{arith}
-use native.Mathlib.Nat.{le_refl, eq-or-lt_of_le}
-use lib.Dec.{eqb}
-use lib.ListN.{length}
-use borrow.Author.Tests.{eqb-true, eq-eqb, ne_eqb}
+use Rattle.std.proofs.Common.{◌≡◌, refl, sym, ap, ◌∙◌, subst, Bool, true, cond, ⊎_elim, List, [], ◌∷◌, ◌++◌, ℕ, zero, suc, ◌+◌, ◌≤◌, ◌<◌, arith, le_refl, eq-or-lt_of_le, eqb, length, eqb-true, eq-eqb, ne_eqb}
 use Rattle.sysv_check.specs.Count.{every, times}
 use Rattle.lookup.proofs.Picking.{All, by-test, and_left, and_right}
 

@@ -1,13 +1,8 @@
 -- T3 is what specs/Meaning says.
 --     t3_is    the theorem: both ways
 -- Assumes nothing.
-use mathlib.Core.Path.{◌≡◌, ◌∙◌}
-use mathlib.Core.Bool.{true}
-use mathlib.Core.List.{List}
-use Prim.Native.Nat.{ℕ, ◌-◌, ◌≤◌, ◌<◌}
-use native.Mathlib.Omega.{arith}
-use lib.Dec.{leb, eqb}
-use borrow.Author.Tests.{leb-true, leb-false, lt-leb, le-leb, eqb-true, eqb-false, eq-eqb, ne_eqb}
+use Rattle.std.proofs.Common.{◌≡◌, ◌∙◌, true, List, ℕ, ◌-◌, ◌≤◌, ◌<◌, arith, leb, eqb, leb-true, leb-false, le-leb, eqb-true, eq-eqb, ne_eqb}
+use borrow.Author.Tests.{lt-leb, eqb-false}
 use Rattle.lookup.specs.Pick.{from}
 use Rattle.lookup.proofs.Picking.{all_from, by-test}
 use Rattle.sysv.specs.Table.{SysvTable, numbers}

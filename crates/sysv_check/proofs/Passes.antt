@@ -5,20 +5,13 @@
 --     count_read                    symbols that were counted
 --     number_there                  whether a pass answers a symbol
 -- Assumes nothing.
-use Prim.Native.Nat.{ℕ, ◌+◌, ◌-◌, ◌*◌, ◌%◌, ◌≤◌}
-use mathlib.Core.Path.{◌≡◌, refl, sym, ◌∙◌}
-use mathlib.Core.Bool.{Bool, true, false, cond, not, ◌&&◌}
-use mathlib.Core.List.{List}
+use Rattle.std.proofs.Common.{ℕ, ◌+◌, ◌-◌, ◌*◌, ◌%◌, ◌≤◌, ◌≡◌, refl, sym, ◌∙◌, Bool, true, false, cond, not, ◌&&◌, List, leb, ltb, eqb, length, leb-true, Result, Ok, Err, Some, None, is_some, option_map}
 use mathlib.Core.Option.{Option, some, none}
-use lib.Dec.{leb, ltb, eqb}
-use lib.ListN.{length}
-use borrow.Author.Tests.{leb-true}
 use Rattle.endian.specs.declared.kinds.Class.{Class}
 use Rattle.endian.specs.declared.kinds.Order.{Order}
 use Rattle.endian.specs.declared.refusals.Refusal.{Refusal}
 use Rattle.endian.specs.Refusals.{limit, too_long, unless_refused}
 use Rattle.endian.specs.Word.{word_at}
-use Rattle.std.specs.Prelude.{Result, Ok, Err, Some, None, is_some, option_map}
 use Rattle.std.specs.Prelude as std
 use Rattle.symbol.specs.Table.{symbols_in, symbol_count, symbol_index}
 use Rattle.lookup.specs.Search.{first_from}

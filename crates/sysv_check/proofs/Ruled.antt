@@ -4,16 +4,10 @@
 --     Ruled, rules      all of them
 --     right_both        why a number stands on a chain, by how often it does
 -- Assumes nothing.
-use mathlib.Core.Path.{◌≡◌, refl}
-use mathlib.Core.Bool.{Bool, true, false, cond, not, ◌&&◌}
-use Prim.Native.Nat.{ℕ, ◌-◌, ◌≤◌, ◌<◌}
-use native.Mathlib.Omega.{arith}
-use lib.Dec.{leb, eqb}
-use borrow.Author.Tests.{leb-true, eqb-true}
+use Rattle.std.proofs.Common.{◌≡◌, refl, Bool, true, false, cond, not, ◌&&◌, ℕ, ◌-◌, ◌≤◌, ◌<◌, arith, leb, eqb, leb-true, eqb-true, Result, Ok, Err}
 use Rattle.lookup.specs.Pick.{from, is_none}
 use Rattle.lookup.proofs.Picking.{from_all, and_left, and_right}
 use Rattle.sysv.specs.Table.{SysvTable, numbers}
-use Rattle.std.specs.Prelude.{Result, Ok, Err}
 use Rattle.sysv_check.specs.declared.table.Fault.{Fault}
 use Rattle.sysv_check.specs.declared.table.Fault.TheVariants.{Broken}
 use Rattle.sysv_check.specs.Count.{every, times}

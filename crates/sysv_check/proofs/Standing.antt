@@ -2,14 +2,8 @@
 --     on_chain    a symbol from low on
 --     stands      every symbol from low on with a name, on the chain of its hash
 -- Assumes nothing.
-use Prim.Native.Nat.{ℕ, ◌+◌, ◌-◌, ◌%◌, ◌≤◌, ◌<◌}
-use mathlib.Core.Path.{◌≡◌, ap, ◌∙◌}
-use mathlib.Core.List.{List, []}
+use Rattle.std.proofs.Common.{ℕ, ◌+◌, ◌-◌, ◌%◌, ◌≤◌, ◌<◌, ◌≡◌, ap, ◌∙◌, List, [], arith, mod-lt, leb, eqb, leb-true, eq-eqb, le-leb}
 use mathlib.Core.Option.{Option, some, get_or}
-use native.Mathlib.Omega.{arith}
-use native.Mathlib.Nat.{mod-lt}
-use lib.Dec.{leb, eqb}
-use borrow.Author.Tests.{leb-true, eq-eqb, le-leb}
 use Rattle.name_hash.specs.Hash.{sysv_hash}
 use Rattle.sysv.specs.Table.{SysvTable, numbers}
 use Rattle.sysv_check.specs.Count.{times}

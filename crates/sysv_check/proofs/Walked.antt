@@ -3,13 +3,8 @@
 --     walk_found, found_walk    a walk that finds, there and back
 --     walk_none, none_walk      a walk that finds nothing, there and back
 -- Assumes nothing.
-use Prim.Native.Nat.{ℕ, suc}
-use mathlib.Core.Path.{◌≡◌, refl, sym, ap, ◌∙◌}
-use mathlib.Core.Bool.{Bool, true, false}
-use mathlib.Core.List.{List, [], ◌∷◌, ◌++◌}
+use Rattle.std.proofs.Common.{ℕ, suc, ◌≡◌, refl, sym, ap, ◌∙◌, Bool, true, false, List, [], ◌∷◌, ◌++◌, arith, length}
 use mathlib.Core.Option.{Option, some, none, none-ne-some}
-use native.Mathlib.Omega.{arith}
-use lib.ListN.{length}
 use Rattle.symbol.specs.Table.{symbol_index}
 use Rattle.symbol.specs.declared.table.SymbolIndex.{SymbolIndex}
 use Rattle.std.specs.Prelude as std

@@ -5,9 +5,7 @@
 --     Passing                                      a pass that stands at a bucket, with so many steps left: the buckets that are left give the answer
 --     passing_start, _wrong, _on, _end             at its start; a chain with something wrong; a chain without; after the last
 -- Assumes nothing.
-use native.Mathlib.Numerals.{add-one}
-use Rattle.std.proofs.Common.{◌≡◌, ℕ, zero, suc, ◌+◌, ◌-◌, ◌≤◌, ◌<◌, Bool, true, false, ◌&&◌, List, [], ◌∷◌, leb, ltb, eqb, Option, Some, None, is_some, refl, sym, ap, ◌∙◌, arith}
-use borrow.Author.Tests.{ne_eqb}
+use Rattle.std.proofs.Common.{◌≡◌, ℕ, zero, suc, ◌+◌, ◌-◌, ◌≤◌, ◌<◌, Bool, true, false, ◌&&◌, List, [], ◌∷◌, leb, ltb, eqb, Option, Some, None, is_some, refl, sym, ap, ◌∙◌, arith, add-one, ne_eqb}
 use Rattle.lookup.specs.Pick.{from}
 use Rattle.lookup.proofs.Picking.{by-test, and_left, and_right}
 use Rattle.sysv_check_chains.specs.Pass.{in_range, may_stand, follow, follow_all, spent, all_spent}

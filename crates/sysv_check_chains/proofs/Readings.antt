@@ -3,10 +3,9 @@
 --     hashed                    its hash is computed
 --     hash_read, hash_unread    the hash of a symbol's name, by the string that was read or refused
 -- Assumes nothing.
-use Rattle.std.proofs.Common.{◌≡◌, ℕ, ◌+◌, ◌-◌, ◌≤◌, Bool, true, false, cond, List, [], ◌∷◌, length, take, drop, Result, Ok, Err, sym, ap, ◌∙◌, arith}
+use Rattle.std.proofs.Common.{◌≡◌, ℕ, ◌+◌, ◌-◌, ◌≤◌, Bool, true, false, cond, List, [], ◌∷◌, length, take, drop, Result, Ok, Err, sym, ap, ◌∙◌, arith, le-ltb}
 use Rattle.std.proofs.Math.Option.{get_or}
 use Rattle.std.proofs.Math.ListN.{length-take, length-drop}
-use borrow.Author.Tests.{le-ltb}
 use Rattle.endian.specs.declared.kinds.Class.{Class}
 use Rattle.endian.specs.declared.kinds.Order.{Order}
 use Rattle.endian.specs.declared.refusals.Refusal.{Refusal}

@@ -4,12 +4,12 @@ use super::index::VersionIndex;
 // The numbers of an entry.
 pub const ENTRY: usize = 6;
 
-// The kinds of an entry; 0 is none.
+// The kinds of an entry; 0 is none. Numbers and no enum: the store is lent, and may hold any number here.
 pub const DEFINITION: u32 = 1;
 
 pub const NEED: u32 = 2;
 
-// A part of the versions' strings.
+// A part of the versions' strings. No `strings::Place`: the store holds 32 bits of each, and so does C's struct.
 #[derive(Clone, Copy, Debug, PartialEq, Eq)]
 pub struct Part {
     pub start: u32,

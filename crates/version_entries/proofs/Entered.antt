@@ -3,19 +3,11 @@
 --     def_past, need_past        a record past the end is passed over
 --     def_inside, need_inside    one that is not lies in the bytes
 -- Assumes nothing.
-use Prim.Native.Nat.{ℕ, ◌+◌, ◌<◌, ◌≤◌}
-use mathlib.Core.Path.{◌≡◌, refl, ap}
-use mathlib.Core.Bool.{Bool, true, false}
-use mathlib.Core.List.{List}
-use native.Mathlib.Omega.{arith}
-use lib.ListN.{length}
-use lib.Dec.{ltb}
-use borrow.Author.Tests.{ltb-true, ltb-false}
+use Rattle.std.proofs.Common.{ℕ, ◌+◌, ◌<◌, ◌≤◌, ◌≡◌, refl, ap, Bool, true, false, List, arith, length, ltb, ltb-true, ltb-false, Result, Ok, Err, Option}
 use Rattle.endian.specs.declared.kinds.Order.{Order}
 use Rattle.endian.specs.declared.refusals.Refusal.{Refusal}
 use Rattle.endian.proofs.Word.{word_past}
 use Rattle.version_records.specs.Outcome.{Outcome}
-use Rattle.std.specs.Prelude.{Result, Ok, Err, Option}
 use Rattle.version.specs.declared.store.Stored.{Stored}
 use Rattle.version.specs.Index.{is_special}
 use Rattle.version_layout.specs.Indices.{need_index}

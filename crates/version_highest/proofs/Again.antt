@@ -1,15 +1,11 @@
 -- What a needed version does to the highest index, and that it does nothing more the second time.
 --     higher_once, higher_again
 -- Assumes nothing.
-use Prim.Native.Nat.{ℕ, max}
-use mathlib.Core.Path.{◌≡◌, sym, ap, ◌∙◌}
-use mathlib.Core.List.{List}
-use native.Mathlib.Omega.{arith}
+use Rattle.std.proofs.Common.{ℕ, max, ◌≡◌, sym, ap, ◌∙◌, List, arith, Ok}
 use Rattle.endian.specs.declared.kinds.Order.{Order}
 use Rattle.version_layout.specs.Indices.{need_index}
 use Rattle.version_layout.specs.declared.steps.Aux.{Aux}
 use Rattle.version_records.specs.Outcome.{folded}
-use Rattle.std.specs.Prelude.{Ok}
 use Rattle.version_highest.specs.Highest.{aux_indices, higher_of}
 use Rattle.version.specs.declared.index.VersionIndex.{VersionIndex}
 use Rattle.version_records.proofs.Outcomes.{fine_same}

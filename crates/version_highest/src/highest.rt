@@ -61,15 +61,13 @@ fn highest_aux(
 {
     let mut high = known;
     let mut at = need.aux;
-    let mut left = u16_at(order, s, need.at + 2);
-    while 0 < left {
+    for _ in 0..u16_at(order, s, need.at + 2) {
         let aux = vernaux_at(order, s, at)?;
         high = higher(high, need_index(order, s, aux.at));
         if aux.next == at {
             return Ok(high);
         }
         at = aux.next;
-        left -= 1;
     }
     Ok(high)
 }

@@ -12,7 +12,7 @@ use version::store::Version;
 use version::table::{entry, version_of};
 
 // Which version is needed: none in particular, which a special index meets and every version that is
-// not hidden, or the one of a hash and a name, which stands beside it.
+// not hidden, or the one of a hash and a name, which stands beside it. No Option: Demand3Last and SysvLast say Need.Hash.
 #[derive(Clone, Copy, Debug, PartialEq, Eq)]
 pub enum Need {
     Any,

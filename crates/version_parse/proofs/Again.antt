@@ -3,12 +3,8 @@
 --     stored           what is put by an answer is what the record stores
 --     storing_again    it stores the same the second time
 -- Assumes nothing.
-use Prim.Native.Nat.{ℕ}
-use mathlib.Core.Path.{◌≡◌, refl, sym, ap, ◌∙◌}
-use mathlib.Core.Bool.{Bool, true, false, ◌||◌}
-use mathlib.Core.List.{List}
+use Rattle.std.proofs.Common.{ℕ, ◌≡◌, refl, sym, ap, ◌∙◌, Bool, true, false, ◌||◌, List, Result, Ok, Err, Option}
 use Rattle.version_records.specs.Outcome.{Outcome, folded}
-use Rattle.std.specs.Prelude.{Result, Ok, Err, Option}
 use Rattle.endian.specs.declared.refusals.Refusal.{Refusal}
 use Rattle.version_entries.specs.EntryAnswers.{entry_step, entry_outcome}
 use Rattle.version_entries.proofs.Entered.{entry_says}

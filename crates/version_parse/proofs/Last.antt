@@ -9,18 +9,12 @@
 --     stored_last                   the numbers at the index of the last version of the list that has it
 --     stored_none                   the numbers at an index that none of them has: 0
 -- Assumes nothing.
-use Prim.Native.Nat.{ℕ, ◌+◌, ◌*◌, ◌≤◌, ◌<◌}
-use mathlib.Core.Path.{◌≡◌, refl, sym, ap, subst, ◌∙◌}
-use mathlib.Core.Bool.{Bool, true, false}
-use mathlib.Core.List.{List, [], ◌∷◌, ◌++◌, foldl, foldl-append}
-use native.Mathlib.Omega.{arith}
-use lib.Dec.{ltb}
-use lib.ListN.{length, get_or, replicate, length-replicate, get_or-replicate, get_or-eq_default}
-use borrow.Author.Tests.{ltb-true, ltb-false}
+use Rattle.std.proofs.Common.{ℕ, ◌+◌, ◌*◌, ◌≤◌, ◌<◌, ◌≡◌, refl, sym, ap, subst, ◌∙◌, Bool, true, false, List, [], ◌∷◌, ◌++◌, arith, ltb, length, get_or, replicate, ltb-true, ltb-false, Ok, Err}
+use mathlib.Core.List.{foldl, foldl-append}
+use lib.ListN.{length-replicate, get_or-replicate, get_or-eq_default}
 use Rattle.endian.specs.declared.kinds.Order.{Order}
 use Rattle.endian.specs.Refusals.{any_long, too_long, store_too_small}
 use Rattle.version_records.specs.Outcome.{Outcome, bind, both, folded}
-use Rattle.std.specs.Prelude.{Ok, Err}
 use Rattle.version_records.specs.Walk.{Walk, collect}
 use Rattle.version_records.specs.Walk.Walk.{end, broken, more}
 use Rattle.version.specs.Index.{is_special}

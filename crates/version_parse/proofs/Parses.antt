@@ -3,17 +3,11 @@
 --     parsed_first, parsed_small    refused by the first pass; by the store's length
 --     parsed_second, parsed_done    refused by the second pass; done
 -- Assumes nothing.
-use Prim.Native.Nat.{ℕ, ◌<◌, ◌≤◌}
-use mathlib.Core.Path.{◌≡◌}
-use mathlib.Core.Bool.{Bool, true, false}
-use mathlib.Core.List.{List, [], ◌∷◌}
-use lib.ListN.{length}
-use borrow.Author.Tests.{lt-ltb, le-ltb}
+use Rattle.std.proofs.Common.{ℕ, ◌<◌, ◌≤◌, ◌≡◌, Bool, true, false, List, [], ◌∷◌, length, lt-ltb, le-ltb, Ok, Err}
 use Rattle.endian.specs.declared.kinds.Order.{Order}
 use Rattle.endian.specs.declared.refusals.Refusal.{Refusal}
 use Rattle.endian.specs.Refusals.{any_long, too_long, store_too_small}
 use Rattle.version_records.specs.Outcome.{folded}
-use Rattle.std.specs.Prelude.{Ok, Err}
 use Rattle.version_highest.specs.Highest.{highest_index}
 use Rattle.version.specs.Store.{store_needs, put_entry}
 use Rattle.version_parse.specs.SecondPass.{entries}

@@ -4,16 +4,8 @@
 --     put_entry_of                       the stores of `put_entry`, one after the other
 --     put_again, length_put              the same entry once more; the store's length
 -- Assumes nothing.
-use Prim.Native.Nat.{ℕ, zero, suc, ◌+◌, ◌-◌, ◌*◌, ◌≤◌, ◌<◌}
-use mathlib.Core.Path.{◌≡◌, refl, sym, ap, ◌∙◌}
-use mathlib.Core.Bool.{Bool, true, false}
-use mathlib.Core.List.{List, [], ◌∷◌}
-use native.Mathlib.Omega.{arith}
-use native.Mathlib.Nat.{add-zero}
-use lib.Dec.{ltb}
-use lib.ListN.{length, get_or, set, length-set}
-use lib.Seq.{sets, length-sets, ext_get_or, get_or-set_same, get_or-set_other}
-use borrow.Author.Tests.{ltb-true, ltb-false}
+use Rattle.std.proofs.Common.{ℕ, zero, suc, ◌+◌, ◌-◌, ◌*◌, ◌≤◌, ◌<◌, ◌≡◌, refl, sym, ap, ◌∙◌, Bool, true, false, List, [], ◌∷◌, arith, add-zero, ltb, length, get_or, set, length-set, ext_get_or, get_or-set_same, get_or-set_other, ltb-true, ltb-false}
+use lib.Seq.{sets, length-sets}
 use Rattle.version.specs.Store.{entry_size, version_numbers, put_entry}
 use Rattle.version.specs.declared.store.Stored.{Stored}
 

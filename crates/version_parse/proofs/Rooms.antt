@@ -5,14 +5,10 @@
 --     all_room               a list: room for each of its records, from room for its highest index
 --     highest_room           both lists
 -- Assumes nothing.
-use Prim.Native.Nat.{ℕ, ◌≤◌}
-use mathlib.Core.Path.{◌≡◌, refl, sym, ap, ◌∙◌}
-use mathlib.Core.Bool.{Bool, true, false}
-use mathlib.Core.List.{List, [], ◌∷◌, foldl}
-use native.Mathlib.Omega.{arith}
+use Rattle.std.proofs.Common.{ℕ, ◌≤◌, ◌≡◌, refl, sym, ap, ◌∙◌, Bool, true, false, List, [], ◌∷◌, arith, Ok, Err, Option, Some, None}
+use mathlib.Core.List.{foldl}
 use Rattle.endian.specs.declared.kinds.Order.{Order}
 use Rattle.version_records.specs.Outcome.{Outcome, folded}
-use Rattle.std.specs.Prelude.{Ok, Err, Option, Some, None}
 use Rattle.version_records.specs.Walk.{Walk, collect}
 use Rattle.version_records.specs.Walk.Walk.{end, broken, more}
 use Rattle.version_records.specs.Records.{verdefs, verneeds, vernauxs, need_count}

@@ -61,15 +61,13 @@ fn fill_auxs(
 {
     let file = u32_at(order, s, need.at + 4);
     let mut at = need.aux;
-    let mut left = u16_at(order, s, need.at + 2);
-    while 0 < left {
+    for _ in 0..u16_at(order, s, need.at + 2) {
         let aux = vernaux_at(order, s, at)?;
         put(need_entry(order, s, strings, file, aux)?, store);
         if aux.next == at {
             return Ok(());
         }
         at = aux.next;
-        left -= 1;
     }
     Ok(())
 }

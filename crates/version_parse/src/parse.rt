@@ -1,23 +1,15 @@
 // Version parsing as a whole: the one function that writes to lent memory.
-ghost use Rattle.std.specs.Prelude.{[], ◌∷◌, ◌≡◌, length};
-ghost use Rattle.endian.specs.Refusals.{any_long};
+ghost use Rattle.std.specs.Prelude.{◌≡◌, length};
 ghost use Rattle.version_parse.specs.Parse.{parsed_into, parsed, answer_of, store_after};
 ghost use Rattle.version_parse.specs.ParseAnswers.{parsed_outcome};
 
 use super::fill::second_pass;
 use super::store::zero;
 use endian::kinds::Order;
-use endian::refusals::{LIMIT, Refusal, STORE_TOO_SMALL, TOO_LONG};
+use endian::refusals::{Refusal, STORE_TOO_SMALL, TOO_LONG, any_long};
 use version::index::VersionIndex;
 use version::store::ENTRY;
 use version_highest::highest::first_pass;
-
-// Whether a lent part is too long.
-fn any_long(verdef: &[u8], verneed: &[u8], strings: &[u8]) -> bool
-    ensures { result ≡ any_long (verdef.now ∷ verneed.now ∷ strings.now ∷ []) }
-{
-    LIMIT < verdef.len() || LIMIT < verneed.len() || LIMIT < strings.len()
-}
 
 // Both passes, over a store of zeros. A refusal leaves it half filled.
 fn attempt(
@@ -30,7 +22,7 @@ fn attempt(
     ensures { parsed_outcome result store.new
         ≡ parsed_into order verdef.now verneed.now strings.now store.old }
 {
-    if any_long(verdef, verneed, strings) {
+    if any_long(&[verdef, verneed, strings]) {
         return Err(TOO_LONG);
     }
     let high = first_pass(order, verdef, verneed)?;

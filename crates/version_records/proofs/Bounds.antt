@@ -3,18 +3,11 @@
 --     listed_end, listed_more, listed_stop         a list, from a place on: at the end; at a record; at a refusal
 --     vernauxs_end, vernauxs_more, vernauxs_stop   a chain, likewise
 -- Assumes nothing.
-use Prim.Native.Nat.{ℕ, ◌+◌, ◌-◌, ◌≤◌, ◌<◌}
-use mathlib.Core.Path.{◌≡◌, refl, sym}
-use mathlib.Core.List.{List}
-use mathlib.Core.Bool.{Bool, true, false, cond}
-use lib.ListN.{length}
-use lib.Dec.{ltb, eqb}
-use native.Mathlib.Omega.{arith}
+use Rattle.std.proofs.Common.{ℕ, ◌+◌, ◌-◌, ◌≤◌, ◌<◌, ◌≡◌, refl, sym, List, Bool, true, false, cond, length, ltb, eqb, arith, Ok, Err}
 use borrow.Author.Tests.{eqb-false}
 use Rattle.endian.specs.declared.kinds.Order.{Order}
 use Rattle.endian.specs.declared.refusals.Refusal.{Refusal}
 use Rattle.endian.specs.Word.{field_at}
-use Rattle.std.specs.Prelude.{Ok, Err}
 use Rattle.version_records.specs.Walk.Walk.{end, broken, more}
 use Rattle.version_records.specs.Records.{place_after, record_at, aux_at, listed, vernauxs, vernaux_shape}
 use Rattle.version_records.specs.declared.records.ListShape.{ListShape}

@@ -5,12 +5,10 @@
 --     folded_both             one list and then another
 --     both_go, both_leave     the same where the first is known
 -- Assumes nothing.
-use mathlib.Core.Path.{◌≡◌, refl, sym, ap, ◌∙◌}
-use mathlib.Core.Bool.{Bool, true, false, cond}
-use mathlib.Core.List.{List, foldl-append}
+use Rattle.std.proofs.Common.{◌≡◌, refl, sym, ap, ◌∙◌, Bool, true, false, cond, List, Ok, Err}
+use mathlib.Core.List.{foldl-append}
 use Rattle.endian.specs.declared.refusals.Refusal.{Refusal}
 use Rattle.version_records.specs.Outcome.{Outcome, bind, both, folded}
-use Rattle.std.specs.Prelude.{Ok, Err}
 
 module _ {A : Type 0} where
   pub fine_same : (a b : A) → ◌≡◌ {A = Outcome A} (Ok a) (Ok b) → a ≡ b

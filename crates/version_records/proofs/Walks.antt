@@ -6,18 +6,9 @@
 --     collect_turn, collect_leave               one turn of it; the way out by what a record gives
 --     counted_repeat                            a record that is its own next, and changes nothing the second time
 -- Assumes nothing.
-use Prim.Native.Nat.{ℕ, zero, suc, ◌-◌, ◌≤◌, ◌<◌}
-use mathlib.Core.Path.{◌≡◌, refl, sym, ap, ◌∙◌}
-use mathlib.Core.Bool.{Bool, true, false, cond}
-use mathlib.Core.List.{List}
-use lib.Dec.{ltb}
-use native.Mathlib.Omega.{arith}
-use native.Mathlib.Nat.{not-suc-le-zero}
-use native.Mathlib.Numerals.{sub-one}
-use borrow.Author.Tests.{lt-ltb, le-ltb, ltb-true}
+use Rattle.std.proofs.Common.{ℕ, zero, suc, ◌-◌, ◌≤◌, ◌<◌, ◌≡◌, refl, sym, ap, ◌∙◌, Bool, true, false, cond, List, ltb, arith, not-suc-le-zero, sub-one, lt-ltb, le-ltb, ltb-true, Ok, Err}
 use Rattle.endian.specs.declared.refusals.Refusal.{Refusal}
 use Rattle.version_records.specs.Outcome.{Outcome, folded}
-use Rattle.std.specs.Prelude.{Ok, Err}
 use Rattle.version_records.specs.Walk.{Walk, link, linked_within, linked, counted, collect}
 use Rattle.version_records.specs.Walk.Walk.{end, broken, more}
 use Rattle.version_records.proofs.Outcomes.{both_go, both_leave}

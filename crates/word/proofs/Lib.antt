@@ -1,2 +1,3 @@
--- `Swap`: the swap of a byte, and of a word from those of its halves.
-mod Swap
+-- `Joined`: the word that the library makes of bytes. `Made`: bytes that a closure gave.
+mod Joined
+mod Made

@@ -1,5 +1,5 @@
 -- `gnu_check_buckets::bucket_of` meets its contract. Assumes nothing.
-use native.Mathlib.Nat.{mod-lt}
+use Rattle.std.proofs.Common.{mod-lt}
 use Rattle.gnu_check_buckets.proofs.bucket_of.Goals as goal
 
 pub returns : goal.returns

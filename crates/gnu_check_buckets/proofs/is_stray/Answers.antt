@@ -1,12 +1,8 @@
 -- `gnu_check_buckets::is_stray` meets its contract: each return is the law of its answer. Assumes nothing.
-use Prim.Native.Nat.{ℕ, ◌-◌, ◌%◌}
-use mathlib.Core.Path.{◌≡◌, refl, sym, ap, ◌∙◌}
-use lib.Dec.{eqb}
-use mathlib.Core.Bool.{true, false}
+use Rattle.std.proofs.Common.{ℕ, ◌-◌, ◌%◌, ◌≡◌, refl, sym, ap, ◌∙◌, eqb, true, false, List}
 use Rattle.endian.specs.declared.kinds.Class.{Class}
 use Rattle.endian.specs.declared.kinds.Order.{Order}
 use Rattle.gnu_table.specs.declared.header.Layout.{Layout}
-use mathlib.Core.List.{List}
 use Rattle.gnu_table.specs.Table.{value_of}
 use Rattle.gnu_rules.specs.Rules.{gnu_hash_at, gnu_bucket_of}
 use Rattle.gnu_table.specs.Layout.{table_with}

@@ -1,6 +1,5 @@
 -- `gnu_check_buckets::lowest_wrong_bucket` meets its contract: the lower of both passes' answers. Assumes nothing.
-use Rattle.std.proofs.Common.{◌∙◌}
-use borrow.Author.Tests.{eq-eqb, ne_eqb}
+use Rattle.std.proofs.Common.{◌∙◌, eq-eqb, ne_eqb}
 use Rattle.gnu_check_buckets.specs.Runs.{wrong_bucket}
 use Rattle.gnu_check_buckets.proofs.lowest_wrong_bucket.Goals as goal
 

@@ -1,8 +1,5 @@
 -- `gnu_check_ends::is_last` meets its contract: the buckets that were computed are the definition's. Assumes nothing.
-use Prim.Native.Nat.{suc, ◌<◌}
-use native.Mathlib.Numerals.{add-one}
-use native.Mathlib.Omega.{arith}
-use borrow.Author.Tests.{lt-ltb, le-ltb}
+use Rattle.std.proofs.Common.{suc, ◌<◌, add-one, arith, lt-ltb, le-ltb}
 use Rattle.gnu_check_ends.specs.Ends.{last_in}
 use Rattle.gnu_check_ends.proofs.is_last.Goals as goal
 
@@ -15,8 +12,7 @@ returns-then-next-count c =
 pub returns : goal.returns
 unfolding last_in
 returns c =
-    let start = c in
-    let a = start.args in
-    let within = start.requires.1 in
+    let a = c.args in
+    let within = c.requires.1 in
     let more : suc a.symbol.0 < a.count = omega (arith, c.if-next-count.false) in
     rw (lt-ltb (suc a.symbol.0) a.count more, ← (add-one a.symbol.0), ← c.symbol_hash.ensures, ← c.symbol_hash-2.ensures)

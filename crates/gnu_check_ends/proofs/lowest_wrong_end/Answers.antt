@@ -1,6 +1,5 @@
 -- `gnu_check_ends::lowest_wrong_end` meets its contract: `find` answers the first symbol whose low bit is wrong. Assumes nothing.
-use Rattle.std.proofs.Common.{◌≡◌, not, ap, ◌∙◌, option_map, rules}
-use borrow.Author.Tests.{eq-eqb, ne_eqb}
+use Rattle.std.proofs.Common.{◌≡◌, not, ap, ◌∙◌, option_map, rules, eq-eqb, ne_eqb}
 use Rattle.symbol.specs.Table.{symbol_index}
 use Rattle.gnu_table.specs.Layout.{table_with}
 use Rattle.gnu_check_ends.specs.Ends.{ends_run, wrong_end}

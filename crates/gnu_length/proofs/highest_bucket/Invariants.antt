@@ -1,8 +1,6 @@
 -- `gnu_length::highest_bucket` meets its contract. Invariant: the highest so far and the buckets from b on give the
 -- highest. Assumes nothing.
-use Prim.Native.Nat.{ℕ, ◌+◌, ◌-◌, ◌*◌, max}
-use mathlib.Core.Path.{◌≡◌}
-use mathlib.Core.List.{List, map}
+use Rattle.std.proofs.Common.{ℕ, ◌+◌, ◌-◌, ◌*◌, max, ◌≡◌, List, map}
 use Rattle.endian.specs.declared.kinds.Order.{Order}
 use Rattle.endian.specs.Word.{word_at}
 use Rattle.lookup.specs.Pick.{from, largest}

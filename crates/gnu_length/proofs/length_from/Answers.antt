@@ -1,8 +1,6 @@
 -- `gnu_length::length_from` meets its contract. Invariant: the first of the symbols from i on is the first of all.
 -- Assumes nothing.
-use Rattle.std.proofs.Common.{◌≡◌, sym, ◌∙◌}
-use Rattle.std.specs.Prelude.{false}
-use borrow.Author.Tests.{ne_eqb}
+use Rattle.std.proofs.Common.{◌≡◌, sym, ◌∙◌, false, ne_eqb}
 use Rattle.gnu_table.specs.Places.{pair_ends}
 use Rattle.gnu_length.proofs.Lengths.{chain_on}
 use Rattle.gnu_length.proofs.length_from.Goals as goal

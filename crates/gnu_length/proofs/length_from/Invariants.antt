@@ -1,7 +1,6 @@
 -- `gnu_length::length_from` meets its contract. Invariant: the first of the symbols from i on is the first of all.
 -- Assumes nothing.
-use Prim.Native.Nat.{◌-◌}
-use mathlib.Core.Path.{◌≡◌}
+use Rattle.std.proofs.Common.{◌-◌, ◌≡◌}
 use Rattle.lookup.specs.Pick.{from, first_of}
 use Rattle.gnu_table.specs.Places.{pair_ends}
 use Rattle.gnu_length.proofs.length_from.Given as goal

@@ -1,9 +1,6 @@
 -- `name_match::block_is_same` meets its contract. No more than k bytes are the same; if fewer are, the name is not there. Assumes nothing.
-use Prim.Native.Nat.{◌+◌}
-use mathlib.Core.Path.{◌≡◌, sym, ◌∙◌}
-use native.Mathlib.Omega.{arith}
-use native.Mathlib.Nat.{add-zero}
-use borrow.Author.Tests.{eqb-true, eqb-false}
+use Rattle.std.proofs.Common.{◌+◌, ◌≡◌, sym, ◌∙◌, arith, add-zero, eqb-true}
+use borrow.Author.Tests.{eqb-false}
 use Rattle.name_match.proofs.Comparing.{reads_other, same_none, same_next, fewer, missed}
 use Rattle.name_match.proofs.block_is_same.Goals as goal
 
@@ -14,20 +11,19 @@ loop-k-init c =
 
 pub loop-k-preserved : goal.loop-k-preserved
 loop-k-preserved c =
-    let at-loop = c in
-    let args = at-loop.args in
+    let args = c.args in
     let s = args.bytes.now in
     let name = args.name.now in
     let i = args.i in
-    let k = at-loop.loop-k.k in
-    let so_far = at-loop.loop-k.invariant in
+    let k = c.loop-k.k in
+    let so_far = c.loop-k.invariant in
     let byte = c.same_byte-same.ensures in
     let on : i + (k + 1) ≡ i + k + 1 = omega arith in (
       omega arith,
       omega arith,
       λ all. rw on (same_next s args.from name i (i + k) (so_far.2 (omega arith)) (byte.1 (omega arith))),
       λ less.
-          missed at-loop.loop-k.same c.same_byte-same.result k less so_far.3
+          missed c.loop-k.same c.same_byte-same.result k less so_far.3
           (λ none. reads_other s args.from name (omega arith) (i + k) (omega arith) (byte.2 none)),
     )
 

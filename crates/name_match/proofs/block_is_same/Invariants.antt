@@ -1,8 +1,5 @@
 -- `name_match::block_is_same` meets its contract. No more than k bytes are the same; if fewer are, the name is not there. Assumes nothing.
-use Prim.Native.Nat.{◌≤◌, ◌<◌, ◌-◌, ◌+◌}
-use mathlib.Core.Path.{◌≡◌}
-use mathlib.Core.Bool.{false}
-use lib.ListN.{drop}
+use Rattle.std.proofs.Common.{◌≤◌, ◌<◌, ◌-◌, ◌+◌, ◌≡◌, false, drop}
 use Rattle.name_match.specs.Reads.{reads}
 use Rattle.name_match.specs.Same.{SameFrom}
 use Rattle.name_match.proofs.block_is_same.Given as goal

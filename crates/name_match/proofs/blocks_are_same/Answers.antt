@@ -1,10 +1,5 @@
 -- `name_match::blocks_are_same` meets its contract. The bytes before i are the same; what is left of the name falls. Assumes nothing.
-use Prim.Native.Nat.{◌-◌, ◌+◌}
-use mathlib.Core.Path.{◌≡◌, sym}
-use native.Mathlib.Omega.{arith}
-use native.Mathlib.Nat.{le_refl}
-use lib.ListN.{length}
-use borrow.Author.Rules.{rules}
+use Rattle.std.proofs.Common.{◌-◌, ◌+◌, ◌≡◌, sym, arith, le_refl, length, rules}
 use Rattle.endian.proofs.Falsity.{false_true}
 use Rattle.name_match.proofs.Comparing.{same_none, same_join}
 use Rattle.name_match.proofs.blocks_are_same.Goals as goal
@@ -28,20 +23,17 @@ returns-then-not-block_is_same-2 c = (λ t. false_true t, λ f. c.block_is_same-
 
 pub loop-i-preserved : goal.loop-i-preserved
 loop-i-preserved c =
-    let at-loop = c in
-    let args = at-loop.args in
-    let i = at-loop.loop-i.i in
+    let args = c.args in
+    let i = c.loop-i.i in
     let block = c.block_is_same-in-loop-i.ensures.0 c.if-not-block_is_same-2.false in
-    (omega arith, same_join args.bytes.now args.from args.name.now 0 i i (i + 8) (le_refl _) at-loop.loop-i.invariant.1 block)
+    (omega arith, same_join args.bytes.now args.from args.name.now 0 i i (i + 8) (le_refl _) c.loop-i.invariant.1 block)
 
 pub returns : goal.returns
 returns c =
-    let at-loop = c in
-    let first = at-loop in
-    let args = first.args in
+    let args = c.args in
     let n = length args.name.now in
     let ends : n - 8 + 8 ≡ n = omega arith in
-    let last = rw ends at (first.block_is_same.ensures.0 first.if-not-block_is_same.false) in (
-      λ t. same_join args.bytes.now args.from args.name.now 0 at-loop.loop-i.i (n - 8) n (omega arith) at-loop.loop-i.invariant.1 last,
+    let last = rw ends at (c.block_is_same.ensures.0 c.if-not-block_is_same.false) in (
+      λ t. same_join args.bytes.now args.from args.name.now 0 c.loop-i.i (n - 8) n (omega arith) c.loop-i.invariant.1 last,
       λ f. false_true (sym f),
     )

@@ -1,6 +1,5 @@
 -- `name_match::bytes_are_same` meets its contract. The bytes before i are the same; what is left of the name falls. Assumes nothing.
-use Prim.Native.Nat.{◌≤◌, ◌-◌}
-use lib.ListN.{length}
+use Rattle.std.proofs.Common.{◌≤◌, ◌-◌, length}
 use Rattle.name_match.specs.Same.{SameFrom}
 use Rattle.name_match.proofs.bytes_are_same.Given as goal
 

@@ -1,7 +1,5 @@
 -- `name_match::reads_name` meets its contract: the name stands there, and what follows it is a zero. Assumes nothing.
-use mathlib.Core.Path.{sym}
-use native.Mathlib.Omega.{arith}
-use lib.ListN.{drop, length-drop}
+use Rattle.std.proofs.Common.{sym, arith, drop, length-drop}
 use Rattle.name_match.proofs.Comparing.{reads_short, reads_all}
 use Rattle.name_match.proofs.reads_name.Goals as goal
 
@@ -20,7 +18,6 @@ returns-then-not-name_stands c = sym (c.name_stands.ensures.1 c.if-not-name_stan
 
 pub returns : goal.returns
 returns c =
-    let at = c in
-    let args = at.args in
-    let all = at.name_stands.ensures.0 at.if-not-name_stands.false in
+    let args = c.args in
+    let all = c.name_stands.ensures.0 c.if-not-name_stands.false in
     sym (reads_all args.bytes.now args.from args.name.now (omega arith) all)

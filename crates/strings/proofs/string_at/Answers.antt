@@ -1,9 +1,5 @@
 -- `strings::string_at` meets its contract: the first zero from the offset on is where the search ended, or there is none. Assumes nothing.
-use Prim.Native.Nat.{◌-◌}
-use mathlib.Core.Path.{◌≡◌}
-use native.Mathlib.Omega.{arith}
-use lib.ListN.{drop}
-use borrow.Author.Tests.{lt-ltb, le-ltb}
+use Rattle.std.proofs.Common.{◌-◌, ◌≡◌, arith, drop, lt-ltb, le-ltb}
 use Rattle.endian.specs.First.{first, is_zero}
 use Rattle.strings.proofs.Readable.{readable_true, readable_false}
 use Rattle.strings.proofs.string_at.Goals as goal

@@ -1,5 +1,5 @@
 -- `strings::string_equals` meets its contract. Assumes nothing.
-use mathlib.Core.Path.{sym, ◌∙◌}
+use Rattle.std.proofs.Common.{sym, ◌∙◌}
 use Rattle.strings.proofs.Meaning.{equals_long, equals_reads}
 use Rattle.strings.proofs.string_equals.Goals as goal
 

@@ -1,7 +1,5 @@
 -- `export_notes::notes::fetulombo_trimmed` meets its contract. The trimmed part is as long as `trimmed_length` says. Assumes nothing.
-use mathlib.Core.Path.{ap}
-use lib.Seq.{length-take-le}
-use borrow.Author.Tests.{lt-ltb, le-ltb}
+use Rattle.std.proofs.Common.{ap, length-take-le, lt-ltb, le-ltb}
 use Rattle.note_name.specs.LentPart.{Part}
 use Rattle.note_name.specs.Trim.{trimmed_length}
 use Rattle.note_name.proofs.Longest.{trimmed_longest}

@@ -1,6 +1,5 @@
 -- `gnu::find::lookup_at` meets its contract: the walk is the one over the pairs from the start on. Assumes nothing.
-use Rattle.std.proofs.Common.{◌+◌, ◌-◌, ◌≡◌, sym, ap, ◌∙◌, arith}
-use Rattle.std.specs.Prelude.{min, true, Ok}
+use Rattle.std.proofs.Common.{◌+◌, ◌-◌, ◌≡◌, sym, ap, ◌∙◌, arith, min, true, Ok}
 use Rattle.gnu_table.specs.Table.{bloom_filter}
 use Rattle.gnu_table.specs.Places.{table_at}
 use Rattle.gnu.specs.Walk.{walk_pairs}

@@ -1,7 +1,6 @@
 -- `gnu::walk::walk` meets its contract. Invariant: the pairs from i on, after so many probes, give the answer.
 -- Assumes nothing.
-use Prim.Native.Nat.{◌+◌, ◌-◌}
-use mathlib.Core.Path.{◌≡◌}
+use Rattle.std.proofs.Common.{◌+◌, ◌-◌, ◌≡◌}
 use Rattle.lookup.specs.Pick.{from}
 use Rattle.lookup.specs.Lent.{parts_of, asked_of}
 use Rattle.gnu_table.specs.Places.{pair_ends}

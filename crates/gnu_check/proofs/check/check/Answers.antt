@@ -1,6 +1,5 @@
 -- `gnu_check::check::check` meets its contract. Each answer is told what was read of the parts. Assumes nothing.
-use Rattle.std.proofs.Common.{◌≡◌, true, false, Err, refl, ◌∙◌, rules}
-use borrow.Author.Tests.{lt-ltb, le-ltb}
+use Rattle.std.proofs.Common.{◌≡◌, true, false, Err, refl, ◌∙◌, rules, lt-ltb, le-ltb}
 use Rattle.gnu_rules.specs.declared.Fault.TheVariants.{Refused}
 use Rattle.gnu_check.proofs.Judged.{check_told}
 use Rattle.gnu_check.proofs.check.check.Goals as goal

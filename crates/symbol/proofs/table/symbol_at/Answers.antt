@@ -1,8 +1,6 @@
 -- `symbol::table::symbol_at` meets its contract. Each answer is the one that its tests pick. Assumes nothing.
-use mathlib.Core.Path.{ap}
-use native.Mathlib.Omega.{arith}
-use borrow.Author.Tests.{lt-ltb, le-ltb, eq-eqb, ne_eqb, le-leb, lt-leb}
-use Rattle.std.specs.Prelude.{Ok}
+use Rattle.std.proofs.Common.{ap, arith, lt-ltb, le-ltb, eq-eqb, ne_eqb, le-leb, Ok}
+use borrow.Author.Tests.{lt-leb}
 use Rattle.symbol.specs.Table.{symbol_at}
 use Rattle.symbol.proofs.Size.{end_fits}
 use Rattle.symbol.proofs.table.symbol_at.Goals as goal
@@ -24,13 +22,11 @@ pub returns-then-symbols-number : goal.returns-then-symbols-number
 unfolding symbol_at
 returns-then-symbols-number c =
     let out = rw c.symbol_size-record.ensures at c.if-symbols-number.true in
-    let tested = c in
-    simp (le-ltb _ _ tested.if-symbols-gt-LIMIT.false, ne_eqb _ _ tested.if-index-eq0.false, lt-leb _ _ out)
+    simp (le-ltb _ _ c.if-symbols-gt-LIMIT.false, ne_eqb _ _ c.if-index-eq0.false, lt-leb _ _ out)
 
 pub returns : goal.returns
 unfolding symbol_at
 returns c =
     let whole = rw c.symbol_size-record.ensures at c.if-symbols-number.false in
-    let tested = c in
     let read = rw c.symbol_size-record.ensures at c.symbol_of.ensures in
-    simp (le-ltb _ _ tested.if-symbols-gt-LIMIT.false, ne_eqb _ _ tested.if-index-eq0.false, le-leb _ _ whole) (ap Ok read)
+    simp (le-ltb _ _ c.if-symbols-gt-LIMIT.false, ne_eqb _ _ c.if-index-eq0.false, le-leb _ _ whole) (ap Ok read)

@@ -1,5 +1,5 @@
 -- `symbol::table::symbol_count` meets its contract. Each answer is the one that its tests pick. Assumes nothing.
-use borrow.Author.Tests.{lt-ltb, le-ltb}
+use Rattle.std.proofs.Common.{lt-ltb, le-ltb}
 use Rattle.symbol.proofs.table.symbol_count.Goals as goal
 
 pub returns-then-symbols-gt-LIMIT : goal.returns-then-symbols-gt-LIMIT

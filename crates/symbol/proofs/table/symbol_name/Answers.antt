@@ -1,6 +1,5 @@
 -- `symbol::table::symbol_name` meets its contract. Each arm is told what `symbol_at` answered. Assumes nothing.
-use mathlib.Core.Path.{sym, ap, ◌∙◌}
-use Rattle.std.proofs.Common.{arith}
+use Rattle.std.proofs.Common.{arith, sym, ap, ◌∙◌}
 use Rattle.symbol.specs.Table.{name_in}
 use Rattle.symbol.proofs.Names.{symbol_name_long, symbol_name_fits}
 use Rattle.symbol.proofs.table.symbol_name.Goals as goal

@@ -1,6 +1,5 @@
 -- `symbol::table::symbol_of` meets its contract. Each field is the word of its place in the layout; a field of one byte is a word of one. Assumes nothing.
-use Prim.Native.Nat.{◌+◌}
-use native.Mathlib.Nat.{add-zero}
+use Rattle.std.proofs.Common.{◌+◌, add-zero}
 use Rattle.endian.proofs.Word.{word_byte}
 use Rattle.symbol.proofs.table.symbol_of.Goals as goal
 

@@ -1,6 +1,6 @@
 -- `sysv::find::walk` meets its contract. The invariant: the numbers that are left, after the probes that were made, give the
 -- answer. The measure is what is left of the tests. Assumes nothing.
-use Prim.Native.Nat.{◌+◌, ◌*◌, ◌-◌, ◌^◌, ◌≤◌, ◌<◌}
+use Rattle.std.proofs.Common.{◌+◌, ◌*◌, ◌-◌, ◌^◌, ◌≤◌, ◌<◌}
 use Rattle.endian.specs.Word.{word_at}
 use Rattle.lookup.specs.Wanted.{wanted}
 use Rattle.lookup.specs.Lent.{parts_of, asked_of}

@@ -1,6 +1,5 @@
 -- `sysv_check::table::check` meets its contract. Each answer is told what `symbol_count` and `header_of` answered. Assumes nothing.
-use Rattle.std.proofs.Common.{◌≡◌, Err, sym, ◌∙◌, rules}
-use borrow.Author.Tests.{lt-ltb, le-ltb}
+use Rattle.std.proofs.Common.{◌≡◌, Err, sym, ◌∙◌, rules, lt-ltb, le-ltb}
 use Rattle.sysv_header.proofs.Headers.{header_read}
 use Rattle.sysv_check.specs.declared.table.Fault.TheVariants.{Refused}
 use Rattle.sysv_check.proofs.Passes.{check_from_lem, count_read}

@@ -1,9 +1,7 @@
 -- `version_highest::highest::highest_need` meets its contract. The invariant: going on over the rest, from here, gives the
 -- answer for the whole list. The measure is what is left of the bytes, since each record lies past the one before.
 -- Assumes nothing.
-use Prim.Native.Nat.{◌-◌}
-use mathlib.Core.Path.{◌≡◌}
-use lib.ListN.{length}
+use Rattle.std.proofs.Common.{◌-◌, ◌≡◌, length}
 use Rattle.version_records.specs.Outcome.{folded}
 use Rattle.version_records.specs.Walk.{collect}
 use Rattle.version_records.specs.Records.{verneeds}

@@ -1,9 +1,7 @@
 -- `version_parse::fill::fill_needs` meets its contract. The invariant: filling from the rest, from here, gives the answer for
 -- the whole list; the store keeps its length and has room for the rest. The measure is what is left of the bytes.
 -- Assumes nothing.
-use Prim.Native.Nat.{◌-◌}
-use mathlib.Core.Path.{◌≡◌}
-use lib.ListN.{length}
+use Rattle.std.proofs.Common.{◌-◌, ◌≡◌, length}
 use Rattle.version_records.specs.Outcome.{folded}
 use Rattle.version_records.specs.Walk.{collect}
 use Rattle.version.specs.Store.{put_entry}

@@ -1,7 +1,0 @@
--- `export_bytes::hashes::fetulombo_gnu_hash` meets its contract. The hash, as an answer. Assumes nothing.
-use mathlib.Core.Path.{ap, ◌∙◌}
-use Rattle.export_bytes.specs.Hashes.{hash_answer}
-use Rattle.export_bytes.proofs.hashes.fetulombo_gnu_hash.Goals as goal
-
-pub returns : goal.returns
-returns c = c.hash_answer.ensures ∙ ap hash_answer c.gnu_hash.ensures

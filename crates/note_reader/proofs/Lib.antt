@@ -1,2 +1,0 @@
--- `Held`: what the walks by hand share.
-mod Held

@@ -1,2 +1,0 @@
--- `Zero`: the bytes up to their first zero.
-mod Zero

@@ -1,8 +1,0 @@
--- `symbol_entry::Symbol::is_local` meets its contract. `bind` says what is compared. Assumes nothing.
-use Prim.Native.Nat.{ℕ}
-use mathlib.Core.Path.{ap}
-use lib.Dec.{eqb}
-use Rattle.symbol_entry.proofs.Symbol.is_local.Goals as goal
-
-pub returns : goal.returns
-returns c = ap (λ (n : ℕ). eqb n 0) c.bind.ensures
