@@ -18,25 +18,25 @@ pub struct CheckAnswer {
     pub longest: u64,
 }
 
-fn gnu_checked(checked: gnu_rules::Checked) -> CheckAnswer
+fn gnu_checked(checked: Result<usize, gnu_rules::Fault>) -> CheckAnswer
     ensures { result ≡ gnu_checked checked }
 {
     match checked {
-        gnu_rules::Checked::Accepted(longest) => CheckAnswer {
+        Ok(longest) => CheckAnswer {
             refusal: 0,
             accepted: 1,
             rule: 0,
             place: 0,
             longest: longest as u64,
         },
-        gnu_rules::Checked::Broken(rule, place) => CheckAnswer {
+        Err(gnu_rules::Fault::Broken { rule, place }) => CheckAnswer {
             refusal: 0,
             accepted: 0,
             rule: rule as u32,
-            place: place,
+            place,
             longest: 0,
         },
-        gnu_rules::Checked::Refused(refusal) => CheckAnswer {
+        Err(gnu_rules::Fault::Refused(refusal)) => CheckAnswer {
             refusal: refusal.0,
             accepted: 0,
             rule: 0,
@@ -63,30 +63,30 @@ pub extern "C" fn fetulombo_gnu_check(
             table,
             unless_long(symbols, unless_long(strings, UNKNOWN_KIND)),
         );
-        return gnu_checked(gnu_rules::Checked::Refused(refusal));
+        return gnu_checked(Err(gnu_rules::Fault::Refused(refusal)));
     }
     gnu_checked(gnu_check::check::check(class_of(class), order_of(order), table, symbols, strings))
 }
 
-fn sysv_checked(checked: sysv_check::table::Checked) -> CheckAnswer
+fn sysv_checked(checked: Result<(), sysv_check::table::Fault>) -> CheckAnswer
     ensures { result ≡ sysv_checked checked }
 {
     match checked {
-        sysv_check::table::Checked::Accepted => CheckAnswer {
+        Ok(()) => CheckAnswer {
             refusal: 0,
             accepted: 1,
             rule: 0,
             place: 0,
             longest: 0,
         },
-        sysv_check::table::Checked::Broken(number) => CheckAnswer {
+        Err(sysv_check::table::Fault::Broken(number)) => CheckAnswer {
             refusal: 0,
             accepted: 0,
             rule: number as u32,
             place: 0,
             longest: 0,
         },
-        sysv_check::table::Checked::Refused(refusal) => CheckAnswer {
+        Err(sysv_check::table::Fault::Refused(refusal)) => CheckAnswer {
             refusal: refusal.0,
             accepted: 0,
             rule: 0,
@@ -113,7 +113,7 @@ pub extern "C" fn fetulombo_sysv_check(
             table,
             unless_long(symbols, unless_long(strings, UNKNOWN_KIND)),
         );
-        return sysv_checked(sysv_check::table::Checked::Refused(refusal));
+        return sysv_checked(Err(sysv_check::table::Fault::Refused(refusal)));
     }
     sysv_checked(sysv_check::table::check(
         class_of(class),

@@ -3,12 +3,9 @@
 ghost use Rattle.std.specs.Prelude.{◌≡◌};
 ghost use Rattle.export_tables.specs.Lengths.{gnu_base_answer, length_answer, gnu_length_answer, sysv_length_answer};
 
-use endian::refusals::UNKNOWN_KIND;
+use endian::refusals::{Refusal, UNKNOWN_KIND};
 use export::answers::{NumberAnswer, no_number, number_answer};
 use export::kinds::{are_kinds, class_of, is_kind, order_of, unless_long};
-use gnu_length::TableLength;
-use gnu_table::header::HeaderAt;
-use sysv_header::length::ChainCount;
 
 // The length of the symbol table; known is 0 where a table says nothing of it.
 #[repr(C)]
@@ -28,26 +25,26 @@ pub extern "C" fn fetulombo_gnu_base(class: u8, order: u8, table: &[u8]) -> Numb
         return no_number(unless_long(table, UNKNOWN_KIND));
     }
     match gnu_table::header::header(class_of(class), order_of(order), table) {
-        HeaderAt::At(layout) => number_answer(layout.symbol_base as u64),
-        HeaderAt::Refused(refusal) => no_number(refusal),
+        Ok(layout) => number_answer(layout.symbol_base as u64),
+        Err(refusal) => no_number(refusal),
     }
 }
 
-fn length_answer(found: TableLength) -> LengthAnswer
+fn length_answer(found: Result<Option<u32>, Refusal>) -> LengthAnswer
     ensures { result ≡ length_answer found }
 {
     match found {
-        TableLength::Symbols(symbols) => LengthAnswer {
+        Ok(Some(symbols)) => LengthAnswer {
             refusal: 0,
             known: 1,
             symbols: symbols as u64,
         },
-        TableLength::Nothing => LengthAnswer {
+        Ok(None) => LengthAnswer {
             refusal: 0,
             known: 0,
             symbols: 0,
         },
-        TableLength::Refused(refusal) => LengthAnswer {
+        Err(refusal) => LengthAnswer {
             refusal: refusal.0 as u64,
             known: 0,
             symbols: 0,
@@ -61,7 +58,7 @@ pub extern "C" fn fetulombo_gnu_length(class: u8, order: u8, table: &[u8]) -> Le
     ensures { result ≡ gnu_length_answer class order table.now }
 {
     if !are_kinds(class, order) {
-        return length_answer(TableLength::Refused(unless_long(table, UNKNOWN_KIND)));
+        return length_answer(Err(unless_long(table, UNKNOWN_KIND)));
     }
     length_answer(gnu_length::table_length(class_of(class), order_of(order), table))
 }
@@ -75,7 +72,7 @@ pub extern "C" fn fetulombo_sysv_length(order: u8, table: &[u8]) -> NumberAnswer
         return no_number(unless_long(table, UNKNOWN_KIND));
     }
     match sysv_header::length::table_length(order_of(order), table) {
-        ChainCount::Chains(count) => number_answer(count as u64),
-        ChainCount::Refused(refusal) => no_number(refusal),
+        Ok(count) => number_answer(count as u64),
+        Err(refusal) => no_number(refusal),
     }
 }
