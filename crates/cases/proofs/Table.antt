@@ -11,7 +11,7 @@
 --     hidden_version    Versym 0x8002, entry 2 valid: without need no, with equal need yes
 --     no_versym         No versym: without need yes, with need no
 -- Assumes nothing.
-use Rattle.std.proofs.Common.{ℕ, ◌/◌, ◌%◌, ◌≡◌, refl, Bool, true, false, List, [], ◌∷◌, ◌++◌, map, replicate, Result, Ok}
+use Rattle.std.proofs.Common.{ℕ, ◌/◌, ◌%◌, ◌≡◌, refl, Bool, true, false, List, [], ◌∷◌, ◌++◌, map, replicate, Result, Ok, Err, Some}
 use Rattle.endian.specs.declared.kinds.Class.TheVariants.{Elf32, Elf64}
 use Rattle.endian.specs.declared.kinds.Order.{Order}
 use Rattle.endian.specs.declared.kinds.Order.TheVariants.{Little, Big}
@@ -22,16 +22,15 @@ use Rattle.endian.specs.Word.{word_at}
 use Rattle.gnu.specs.Find.{gnu_find}
 use Rattle.gnu.specs.Lookup.{start_of, gnu_lookup}
 use Rattle.gnu_table.specs.Table.{bloom_first, bloom_second, bloom_filter}
-use Rattle.gnu_rules.specs.declared.Checked.TheVariants.{Accepted}
 use Rattle.gnu_rules.specs.Rules.{gnu_check, power_of_two, gnu_hash_at, is_last, findings, longest, verdict}
 use Rattle.lookup.specs.declared.Lookup.{Lookup}
 use Rattle.lookup.specs.Wanted.{name_of, wanted_in, found, missing}
 use Rattle.name_hash.specs.Hash.{gnu_hash, sysv_hash}
 use Rattle.property_reader.specs.declared.Property.{Property}
-use Rattle.property_reader.specs.declared.PropertyStep.TheVariants.{Property as Step-as-Property, Refused}
 use Rattle.note.specs.declared.reader.Note.{Note}
 use Rattle.note.specs.Notes.{note_step}
 use Rattle.property_reader.specs.Reader.{property_step, property_reader_at}
+use Rattle.property_reader.specs.After.{property_reader_after}
 use Rattle.note_properties.specs.Properties.{property_start}
 use Rattle.note.specs.Walk.{none, onto, ended, stopped, notes_within, notes_from, section_notes}
 use Rattle.symbol.specs.Table.{symbol_at, symbol_index}
@@ -85,7 +84,7 @@ gnu_strings : List ℕ
 gnu_strings = 0 ∷ (a ++ (0 ∷ []))
 
 -- bloom 65600: accepted
-gnu_accepted : (order : Order) → gnu_check Elf32 order (gnu_table_lem order 65600) (gnu_symbols order) gnu_strings ≡ Accepted 1
+gnu_accepted : (order : Order) → gnu_check Elf32 order (gnu_table_lem order 65600) (gnu_symbols order) gnu_strings ≡ Ok 1
 unfolding zeros four fours gnu_table_lem gnu_symbols gnu_strings gnu_check gnu_hash power_of_two gnu_hash_at bloom_first bloom_second is_last findings longest verdict name_of symbol_at readable first word_at
 gnu_accepted Little = refl
 gnu_accepted Big = refl
@@ -145,15 +144,15 @@ bytes order after = four order 0 ++ (four order 4 ++ zeros after)
 
 -- Property size 4: ELF64 with 12 bytes gives 6, 16 is read; ELF32 reads 12
 properties : (order : Order)
-    → (property_step (property_start Elf64 order) (bytes order 4)
-    ≡ Refused bad_property (property_reader_at (property_start Elf64 order) 12))
-    × (property_step (property_start Elf64 order) (bytes order 8)
-    ≡ Step-as-Property property (property_reader_at (property_start Elf64 order) 16))
-    × (property_step (property_start Elf32 order) (bytes order 4)
-    ≡ Step-as-Property property (property_reader_at (property_start Elf32 order) 12))
+    → (property_step (property_start Elf64 order) (bytes order 4) ≡ Err bad_property)
+    × (property_reader_after (property_start Elf64 order) (bytes order 4) ≡ property_reader_at (property_start Elf64 order) 12)
+    × (property_step (property_start Elf64 order) (bytes order 8) ≡ Ok (Some property))
+    × (property_reader_after (property_start Elf64 order) (bytes order 8) ≡ property_reader_at (property_start Elf64 order) 16)
+    × (property_step (property_start Elf32 order) (bytes order 4) ≡ Ok (Some property))
+    × (property_reader_after (property_start Elf32 order) (bytes order 4) ≡ property_reader_at (property_start Elf32 order) 12)
 unfolding zeros four bytes property word_at property_step
-properties Little = (refl, refl, refl)
-properties Big = (refl, refl, refl)
+properties Little = (refl, refl, refl, refl, refl, refl)
+properties Big = (refl, refl, refl, refl, refl, refl)
 
 -- a version table whose entry 2 is a definition of hash 97 and name `a`, and the versyms of one symbol: 0x8002
 abbrev store : List ℕ
