@@ -3,9 +3,10 @@
 #![tactic(auto)]
 
 use endian::kinds::Order;
+use endian::refusals::Refusal;
 use export::kinds::{class_of, order_of};
-use gnu_rules::Checked;
-use replay::replay;
+use gnu_rules::Fault;
+use replay::{part_at, replay};
 use std::io;
 use word::{u8_at, u32_at};
 
@@ -20,78 +21,37 @@ const STRINGS: usize = 369;
 
 const VERDICT: usize = 459;
 
-// The part that stands after its length at a place, or none of it where the record is too short.
-fn part(record: &[u8], at: usize) -> &[u8] {
-    let n = u8_at(record, at) as usize;
-    if record.len() <= at {
-        return &record[0..0];
-    }
-    if record.len() - at <= n {
-        return &record[0..0];
-    }
-    let start = at + 1;
-    let end = start + n;
-    &record[start..end]
-}
-
-// The SysV checker's verdict in the words of the GNU one's: it has no place and no longest chain.
-fn verdict_of(checked: sysv_check::table::Checked) -> Checked {
-    match checked {
-        sysv_check::table::Checked::Accepted => Checked::Accepted(0),
-        sysv_check::table::Checked::Broken(rule) => Checked::Broken(rule, 0),
-        sysv_check::table::Checked::Refused(r) => Checked::Refused(r),
-    }
-}
-
-fn checked(record: &[u8]) -> Checked {
+// The verdict of the checker that the record names; the SysV one has no place and no longest chain.
+fn checked(record: &[u8]) -> Result<usize, Fault> {
     let class = class_of(u8_at(record, 1));
     let order = order_of(u8_at(record, 2));
-    let table = part(record, TABLE);
-    let symbols = part(record, SYMBOLS);
-    let strings = part(record, STRINGS);
+    let table = part_at(record, TABLE);
+    let symbols = part_at(record, SYMBOLS);
+    let strings = part_at(record, STRINGS);
     if u8_at(record, 0) == b'g' {
         return gnu_check::check::check(class, order, table, symbols, strings);
     }
-    verdict_of(sysv_check::table::check(class, order, table, symbols, strings))
-}
-
-// Whether a refusal is the recorded one, which is 0 where there is none.
-fn same_refusal(recorded: u8, number: u32) -> bool {
-    if recorded == 0 {
-        return false;
+    match sysv_check::table::check(class, order, table, symbols, strings) {
+        Ok(()) => Ok(0),
+        Err(sysv_check::table::Fault::Broken(rule)) => Err(Fault::Broken { rule, place: 0 }),
+        Err(sysv_check::table::Fault::Refused(refusal)) => Err(Fault::Refused(refusal)),
     }
-    number == recorded as u32
 }
 
-// Whether a verdict is the recorded one: the refusal, or no rule with the longest chain, or the
-// broken rule with its place.
+// The recorded verdict: the refusal, or no rule with the longest chain, or the broken rule with its
+// place.
+fn recorded_verdict(record: &[u8]) -> Result<usize, Fault> {
+    let place = u32_at(Order::Little, record, VERDICT + 2);
+    let longest = u32_at(Order::Little, record, VERDICT + 6) as usize;
+    match (u8_at(record, VERDICT), u8_at(record, VERDICT + 1)) {
+        (0, 0) => Ok(longest),
+        (0, rule) => Err(Fault::Broken { rule, place }),
+        (refusal, _) => Err(Fault::Refused(Refusal(refusal as u32))),
+    }
+}
+
 fn agrees(record: &[u8]) -> bool {
-    let refusal = u8_at(record, VERDICT);
-    let broken = u8_at(record, VERDICT + 1);
-    match checked(record) {
-        Checked::Accepted(longest) => {
-            if refusal != 0 {
-                return false;
-            }
-            if broken != 0 {
-                return false;
-            }
-            longest == u32_at(Order::Little, record, VERDICT + 6) as usize
-        }
-        Checked::Broken(rule, place) => {
-            if refusal != 0 {
-                return false;
-            }
-            if broken == 0 {
-                return false;
-            }
-            if rule != broken {
-                return false;
-            }
-            place == u32_at(Order::Little, record, VERDICT + 2)
-        }
-        Checked::Refused(r) => same_refusal(refusal, r.0),
-    }
+    checked(record) == recorded_verdict(record)
 }
 
 fn main(rt: HostRuntime) -> io::Result<()> {
