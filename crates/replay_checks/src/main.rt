@@ -3,8 +3,9 @@
 #![tactic(auto)]
 
 use endian::kinds::Order;
+use endian::refusals::Refusal;
 use export::kinds::{class_of, order_of};
-use gnu_rules::Checked;
+use gnu_rules::Fault;
 use replay::replay;
 use std::io;
 use word::{u8_at, u32_at};
@@ -35,15 +36,15 @@ fn part(record: &[u8], at: usize) -> &[u8] {
 }
 
 // The SysV checker's verdict in the words of the GNU one's: it has no place and no longest chain.
-fn verdict_of(checked: sysv_check::table::Checked) -> Checked {
+fn verdict_of(checked: Result<(), sysv_check::table::Fault>) -> Result<usize, Fault> {
     match checked {
-        sysv_check::table::Checked::Accepted => Checked::Accepted(0),
-        sysv_check::table::Checked::Broken(rule) => Checked::Broken(rule, 0),
-        sysv_check::table::Checked::Refused(r) => Checked::Refused(r),
+        Ok(()) => Ok(0),
+        Err(sysv_check::table::Fault::Broken(rule)) => Err(Fault::Broken { rule, place: 0 }),
+        Err(sysv_check::table::Fault::Refused(refusal)) => Err(Fault::Refused(refusal)),
     }
 }
 
-fn checked(record: &[u8]) -> Checked {
+fn checked(record: &[u8]) -> Result<usize, Fault> {
     let class = class_of(u8_at(record, 1));
     let order = order_of(u8_at(record, 2));
     let table = part(record, TABLE);
@@ -55,43 +56,23 @@ fn checked(record: &[u8]) -> Checked {
     verdict_of(sysv_check::table::check(class, order, table, symbols, strings))
 }
 
-// Whether a refusal is the recorded one, which is 0 where there is none.
-fn same_refusal(recorded: u8, number: u32) -> bool {
-    if recorded == 0 {
-        return false;
+// The recorded verdict: the refusal, or no rule with the longest chain, or the broken rule with its place.
+fn recorded(record: &[u8]) -> Result<usize, Fault> {
+    let refusal = u8_at(record, VERDICT);
+    let rule = u8_at(record, VERDICT + 1);
+    if refusal != 0 {
+        return Err(Fault::Refused(Refusal(refusal as u32)));
     }
-    number == recorded as u32
+    if rule != 0 {
+        let place = u32_at(Order::Little, record, VERDICT + 2);
+        return Err(Fault::Broken { rule, place });
+    }
+    Ok(u32_at(Order::Little, record, VERDICT + 6) as usize)
 }
 
-// Whether a verdict is the recorded one: the refusal, or no rule with the longest chain, or the
-// broken rule with its place.
+// Whether a verdict is the recorded one.
 fn agrees(record: &[u8]) -> bool {
-    let refusal = u8_at(record, VERDICT);
-    let broken = u8_at(record, VERDICT + 1);
-    match checked(record) {
-        Checked::Accepted(longest) => {
-            if refusal != 0 {
-                return false;
-            }
-            if broken != 0 {
-                return false;
-            }
-            longest == u32_at(Order::Little, record, VERDICT + 6) as usize
-        }
-        Checked::Broken(rule, place) => {
-            if refusal != 0 {
-                return false;
-            }
-            if broken == 0 {
-                return false;
-            }
-            if rule != broken {
-                return false;
-            }
-            place == u32_at(Order::Little, record, VERDICT + 2)
-        }
-        Checked::Refused(r) => same_refusal(refusal, r.0),
-    }
+    checked(record) == recorded(record)
 }
 
 fn main(rt: HostRuntime) -> io::Result<()> {
