@@ -4,30 +4,25 @@
 #![tactic(auto)]
 
 ghost use Rattle.std.specs.Prelude.{◌≡◌, cond, eqb, ◌-◌, ◌%◌, ◌<◌, Some};
-ghost use Rattle.gnu_table.specs.Layout.{table_with};
+ghost use Rattle.gnu_check_hashes.specs.Lent.{table_of};
 ghost use Rattle.gnu_check_hashes.specs.Names.{hash_in};
 ghost use Rattle.lookup.specs.Search.{first_from};
 ghost use Rattle.gnu_check_buckets.specs.Runs.{lesser, is_bucket, may_be, stray, least_misplaced, wrong_bucket};
 
-use endian::kinds::{Class, Order};
 use gnu_check_hashes::hashes::symbol_hash;
-use gnu_table::header::Layout;
+use gnu_check_hashes::table::Table;
 use gnu_table::words::word_of;
 use symbol::table::SymbolIndex;
 
 // The bucket of a symbol.
-fn bucket_of(
-    class: Class,
-    order: Order,
-    symbols: &[u8],
-    strings: &[u8],
-    buckets: u32,
-    symbol: SymbolIndex,
-) -> u32
-    requires { 0 < buckets }
-    ensures { (result ≡ hash_in class order symbols.now strings.now symbol.0 % buckets) × (result < buckets) }
+fn bucket_of(table: Table, symbol: SymbolIndex) -> u32
+    requires { 0 < table.layout.bucket_count }
+    ensures { (result
+        ≡ hash_in table.entry.class table.entry.order table.entry.symbols.now table.entry.strings.now symbol.0
+        % table.entry.layout.bucket_count)
+        × (result < table.entry.layout.bucket_count) }
 {
-    symbol_hash(class, order, symbols, strings, symbol) % buckets
+    symbol_hash(table, symbol) % table.layout.bucket_count
 }
 
 // The lesser of two numbers, where there are any.
@@ -65,28 +60,20 @@ fn lower_wrong(best: Option<u32>, b: u32, held: u32, right: u32) -> Option<u32>
 
 // The lowest bucket of a symbol whose bucket does not hold the start of its run, where there is one.
 // `start` is where the current run starts, `last` the bucket of the symbol before.
-fn least_misplaced(
-    class: Class,
-    order: Order,
-    table: &[u8],
-    symbols: &[u8],
-    strings: &[u8],
-    layout: Layout,
-    count: u32,
-) -> Option<u32>
-    requires { 0 < layout.bucket_count }
+fn least_misplaced(table: Table) -> Option<u32>
+    requires { 0 < table.layout.bucket_count }
     ensures { result
-        ≡ least_misplaced (table_with class order table.now symbols.now strings.now layout count)
-        layout.symbol_base (count - layout.symbol_base) }
+        ≡ least_misplaced (table_of table.entry) table.entry.layout.symbol_base
+        (table.entry.count - table.entry.layout.symbol_base) }
 {
     let mut best = None;
-    let mut start = layout.symbol_base;
+    let mut start = table.layout.symbol_base;
     let mut last = None;
-    for i in layout.symbol_base..count {
-        let symbol = SymbolIndex(i);
-        let b = bucket_of(class, order, symbols, strings, layout.bucket_count, symbol);
+    for i in table.layout.symbol_base..table.count {
+        let b = bucket_of(table, SymbolIndex(i));
         start = run_start(last, b, start, i);
-        best = lower_wrong(best, b, word_of(order, table, layout.buckets_at, b), start);
+        let held = word_of(table.order, table.bytes, table.layout.buckets_at, b);
+        best = lower_wrong(best, b, held, start);
         last = Some(b);
     }
     best
@@ -103,85 +90,54 @@ fn may_be(value: u32, buckets: u32, b: u32) -> bool
 
 // Whether a bucket holds neither 0 nor the first symbol of a run of its own, with a value that may be
 // of this bucket. A name is hashed only where the value does not rule the bucket out.
-fn is_stray(
-    class: Class,
-    order: Order,
-    table: &[u8],
-    symbols: &[u8],
-    strings: &[u8],
-    layout: Layout,
-    count: u32,
-    b: u32,
-) -> bool
-    requires { 0 < layout.bucket_count }
-    ensures { result
-        ≡ stray (table_with class order table.now symbols.now strings.now layout count) b }
+fn is_stray(table: Table, b: u32) -> bool
+    requires { 0 < table.layout.bucket_count }
+    ensures { result ≡ stray (table_of table.entry) b }
 {
-    let v = word_of(order, table, layout.buckets_at, b);
+    let layout = table.layout;
+    let v = word_of(table.order, table.bytes, layout.buckets_at, b);
     if v == 0 {
         return false;
     }
     if v < layout.symbol_base {
         return true;
     }
-    if count <= v {
+    if table.count <= v {
         return true;
     }
-    let value = word_of(order, table, layout.values_at, v - layout.symbol_base);
+    let value = word_of(
+        table.order,
+        table.bytes,
+        layout.values_at,
+        v - layout.symbol_base,
+    );
     if !may_be(value, layout.bucket_count, b) {
         return true;
     }
-    let symbol = SymbolIndex(v);
-    if bucket_of(class, order, symbols, strings, layout.bucket_count, symbol) != b {
+    if bucket_of(table, SymbolIndex(v)) != b {
         return true;
     }
     if v == layout.symbol_base {
         return false;
     }
-    let before = SymbolIndex(v - 1);
-    bucket_of(class, order, symbols, strings, layout.bucket_count, before) == b
+    bucket_of(table, SymbolIndex(v - 1)) == b
 }
 
 // The lowest such bucket, where there is one.
-fn lowest_stray(
-    class: Class,
-    order: Order,
-    table: &[u8],
-    symbols: &[u8],
-    strings: &[u8],
-    layout: Layout,
-    count: u32,
-) -> Option<u32>
-    requires { 0 < layout.bucket_count }
-    ensures { result
-        ≡ first_from
-        (stray (table_with class order table.now symbols.now strings.now layout count))
-        0 layout.bucket_count }
+fn lowest_stray(table: Table) -> Option<u32>
+    requires { 0 < table.layout.bucket_count }
+    ensures { result ≡ first_from (stray (table_of table.entry)) 0 table.entry.layout.bucket_count }
 {
-    (0..layout.bucket_count).find(|b| is_stray(
-        class, order, table, symbols, strings, layout, count, *b,
-    ))
+    (0..table.layout.bucket_count).find(|b| is_stray(table, *b))
 }
 
 // The lowest bucket that is stray, or that a misplaced symbol is in, where there is one. In a table that
 // keeps G7 it is the lowest that breaks G9.
-pub fn lowest_wrong_bucket(
-    class: Class,
-    order: Order,
-    table: &[u8],
-    symbols: &[u8],
-    strings: &[u8],
-    layout: Layout,
-    count: u32,
-) -> Option<u32>
-    ensures { result
-        ≡ wrong_bucket (table_with class order table.now symbols.now strings.now layout count) }
+pub fn lowest_wrong_bucket(table: Table) -> Option<u32>
+    ensures { result ≡ wrong_bucket (table_of table.entry) }
 {
-    if layout.bucket_count == 0 {
+    if table.layout.bucket_count == 0 {
         return None;
     }
-    lesser(
-        lowest_stray(class, order, table, symbols, strings, layout, count),
-        least_misplaced(class, order, table, symbols, strings, layout, count),
-    )
+    lesser(lowest_stray(table), least_misplaced(table))
 }

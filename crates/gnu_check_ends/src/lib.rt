@@ -6,97 +6,54 @@ ghost use Rattle.std.specs.Prelude.{cond, ◌≡◌, ◌+◌, ◌*◌, ◌≤◌
 ghost use Rattle.endian.specs.Word.{word_at};
 ghost use Rattle.symbol.specs.Table.{symbol_index};
 ghost use Rattle.gnu_table.specs.Table.{odd};
-ghost use Rattle.gnu_table.specs.Layout.{table_with};
+ghost use Rattle.gnu_check_hashes.specs.Lent.{table_of};
 ghost use Rattle.gnu_check_ends.specs.Ends.{last_in, ends_run, wrong_end, longest_chain};
 
-use endian::kinds::{Class, Order};
 use gnu_check_hashes::hashes::symbol_hash;
-use gnu_table::header::Layout;
+use gnu_check_hashes::table::Table;
 use gnu_table::words::word_of;
 use symbol::table::SymbolIndex;
 
 // Whether the next symbol is of another bucket, or there is none.
-fn is_last(
-    class: Class,
-    order: Order,
-    symbols: &[u8],
-    strings: &[u8],
-    buckets: u32,
-    count: u32,
-    symbol: SymbolIndex,
-) -> bool
-    requires { (0 < buckets) × (symbol.0 < count) }
-    ensures { result ≡ last_in class order symbols.now strings.now buckets count symbol.0 }
+fn is_last(table: Table, symbol: SymbolIndex) -> bool
+    requires { (0 < table.layout.bucket_count) × (symbol.0 < table.count) }
+    ensures { result
+        ≡ last_in table.entry.class table.entry.order table.entry.symbols.now table.entry.strings.now
+        table.entry.layout.bucket_count table.entry.count symbol.0 }
 {
     let next = symbol.0 + 1;
-    if next == count {
+    if next == table.count {
         return true;
     }
-    let b = symbol_hash(class, order, symbols, strings, symbol) % buckets;
-    symbol_hash(class, order, symbols, strings, SymbolIndex(next)) % buckets != b
+    let buckets = table.layout.bucket_count;
+    let b = symbol_hash(table, symbol) % buckets;
+    symbol_hash(table, SymbolIndex(next)) % buckets != b
 }
 
-fn ends_right(
-    class: Class,
-    order: Order,
-    table: &[u8],
-    symbols: &[u8],
-    strings: &[u8],
-    layout: Layout,
-    count: u32,
-    symbol: SymbolIndex,
-) -> bool
-    requires { (0 < layout.bucket_count) × (layout.symbol_base ≤ symbol.0) × (symbol.0 < count) }
-    ensures { result
-        ≡ ends_run (table_with class order table.now symbols.now strings.now layout count) symbol.0 }
+fn ends_right(table: Table, symbol: SymbolIndex) -> bool
+    requires { (0 < table.layout.bucket_count) × (table.layout.symbol_base ≤ symbol.0) × (symbol.0 < table.count) }
+    ensures { result ≡ ends_run (table_of table.entry) symbol.0 }
 {
     let value = word_of(
-        order,
-        table,
-        layout.values_at,
-        symbol.0 - layout.symbol_base,
+        table.order,
+        table.bytes,
+        table.layout.values_at,
+        symbol.0 - table.layout.symbol_base,
     );
     let ends = value % 2 == 1;
-    ends == is_last(
-        class,
-        order,
-        symbols,
-        strings,
-        layout.bucket_count,
-        count,
-        symbol,
-    )
+    ends == is_last(table, symbol)
 }
 
 // The lowest hashed symbol whose low bit is not 1 exactly if it is the last of its run, where there is
 // one; none without buckets. In a table that keeps G9 it is the lowest that breaks G10.
-pub fn lowest_wrong_end(
-    class: Class,
-    order: Order,
-    table: &[u8],
-    symbols: &[u8],
-    strings: &[u8],
-    layout: Layout,
-    count: u32,
-) -> Option<SymbolIndex>
-    ensures { result
-        ≡ option_map symbol_index
-        (wrong_end (table_with class order table.now symbols.now strings.now layout count)) }
+pub fn lowest_wrong_end(table: Table) -> Option<SymbolIndex>
+    ensures { result ≡ option_map symbol_index (wrong_end (table_of table.entry)) }
 {
-    if layout.bucket_count == 0 {
+    if table.layout.bucket_count == 0 {
         return None;
     }
-    (layout.symbol_base..count)
-        .find(|i| !ends_right(
-            class,
-            order,
-            table,
-            symbols,
-            strings,
-            layout,
-            count,
-            SymbolIndex(*i),
-        ))
+    (table.layout.symbol_base..table.count)
+        .find(|i| !ends_right(table, SymbolIndex(*i)))
         .map(SymbolIndex)
 }
 
@@ -108,14 +65,17 @@ fn chain_start(value: u32, start: u32, next: u32) -> u32
 }
 
 // The longest chain, by the low bits, or 0. `start` is where the current chain starts.
-pub fn longest_chain(order: Order, table: &[u8], layout: Layout, count: u32) -> usize
+pub fn longest_chain(table: Table) -> usize
     ensures { result
-        ≡ longest_chain layout.symbol_base (λ k. word_at order 4 table.now (layout.values_at + k * 4)) count }
+        ≡ longest_chain table.entry.layout.symbol_base
+        (λ k. word_at table.entry.order 4 table.entry.bytes.now (table.entry.layout.values_at + k * 4))
+        table.entry.count }
 {
+    let base = table.layout.symbol_base;
     let mut longest: u32 = 0;
-    let mut start = layout.symbol_base;
-    for i in layout.symbol_base..count {
-        let value = word_of(order, table, layout.values_at, i - layout.symbol_base);
+    let mut start = base;
+    for i in base..table.count {
+        let value = word_of(table.order, table.bytes, table.layout.values_at, i - base);
         let next = i + 1;
         longest = longest.max(next - start);
         start = chain_start(value, start, next);

@@ -1,4 +1,5 @@
-// The GNU hash of a symbol's name, for the checker.
+// What the GNU checker's passes read, and the GNU hash of a symbol's name.
 #![tactic(auto)]
 
 pub mod hashes;
+pub mod table;

@@ -3,10 +3,10 @@ use Rattle.std.proofs.Common.{◌∙◌, eq-eqb, ne_eqb}
 use Rattle.gnu_check_buckets.specs.Runs.{wrong_bucket}
 use Rattle.gnu_check_buckets.proofs.lowest_wrong_bucket.Goals as goal
 
-pub returns-then-layout-eq0 : goal.returns-then-layout-eq0
+pub returns-then-table-eq0 : goal.returns-then-table-eq0
 unfolding wrong_bucket
-returns-then-layout-eq0 c = rw (eq-eqb _ 0 c.if-layout-eq0.true)
+returns-then-table-eq0 c = rw (eq-eqb _ 0 c.if-table-eq0.true)
 
 pub returns : goal.returns
 unfolding wrong_bucket
-returns c = rw (ne_eqb _ 0 c.if-layout-eq0.false, ← c.lowest_stray.ensures, ← c.least_misplaced.ensures) c.lesser.ensures
+returns c = rw (ne_eqb _ 0 c.if-table-eq0.false, ← c.lowest_stray.ensures, ← c.least_misplaced.ensures) c.lesser.ensures

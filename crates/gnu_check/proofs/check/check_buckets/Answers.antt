@@ -3,21 +3,19 @@ use Rattle.std.proofs.Common.{◌≡◌, Ok, None, sym, ap, ◌∙◌}
 use Rattle.std.proofs.Math.Option.{none}
 use Rattle.lookup.specs.Pick.{from}
 use Rattle.gnu_rules.specs.Rules.{bucket_right, lowest}
-use Rattle.gnu_table.specs.Layout.{table_with}
+use Rattle.gnu_check_hashes.specs.Lent.{table_of}
 use Rattle.gnu_check_ends.specs.Ends.{ends_run}
 use Rattle.gnu_check.proofs.Judged.{numbered, unnumbered, lowest_at, lowest_nowhere, wrong_bucket_lem, right_buckets, ends_search, from_buckets_10, from_buckets_accepted}
 use Rattle.gnu_check.proofs.check.check_buckets.Goals as goal
 
 pub returns-in-Some : goal.returns-in-Some
 returns-in-Some c =
-    let a = c.args in
-    let t = table_with a.class a.order a.table.now a.symbols.now a.strings.now a.layout a.count in
+    let t = table_of c.args.table in
     sym (wrong_bucket_lem t c.requires.0 c.requires.2 c.in-Some.bucket (sym c.in-Some.is ∙ c.lowest_wrong_bucket.ensures))
 
 pub returns-in-Some-lowest_wrong_end : goal.returns-in-Some-lowest_wrong_end
 returns-in-Some-lowest_wrong_end c =
-    let a = c.args in
-    let t = table_with a.class a.order a.table.now a.symbols.now a.strings.now a.layout a.count in
+    let t = table_of c.args.table in
     -- no bucket is wrong
     let nine : lowest (bucket_right t) (from 0 t.bucket_count) ≡ none =
     right_buckets t c.requires.0 c.requires.2 (sym c.in_default.is ∙ c.lowest_wrong_bucket.ensures) in
@@ -28,8 +26,7 @@ returns-in-Some-lowest_wrong_end c =
 
 pub returns : goal.returns
 returns c =
-    let a = c.args in
-    let t = table_with a.class a.order a.table.now a.symbols.now a.strings.now a.layout a.count in
+    let t = table_of c.args.table in
     -- no bucket is wrong
     let nine : lowest (bucket_right t) (from 0 t.bucket_count) ≡ none =
     right_buckets t c.requires.0 c.requires.2 (sym c.in_default.is ∙ c.lowest_wrong_bucket.ensures) in

@@ -6,16 +6,16 @@ use Rattle.gnu_check.proofs.check.check_table.Goals as goal
 
 pub returns-in-Some : goal.returns-in-Some
 returns-in-Some c =
-    let a = c.args in
-    header_broken a.class a.order a.table.now a.symbols.now a.strings.now a.layout a.count c.in-Some.rule
+    let t = c.args.table in
+    header_broken t.class t.order t.bytes.now t.symbols.now t.strings.now t.layout t.count c.in-Some.rule
     (sym c.in-Some.is ∙ c.broken_header.ensures)
 
 pub check_symbols-requires : goal.check_symbols-requires
-check_symbols-requires c = header_sound c.args.layout c.args.count (sym c.in_default.is ∙ c.broken_header.ensures)
+check_symbols-requires c = header_sound c.args.table.layout c.args.table.count (sym c.in_default.is ∙ c.broken_header.ensures)
 
 pub returns : goal.returns
 returns c =
-    let a = c.args in
+    let t = c.args.table in
     c.check_symbols.ensures
-    ∙ header_kept a.class a.order a.table.now a.symbols.now a.strings.now a.layout a.count
+    ∙ header_kept t.class t.order t.bytes.now t.symbols.now t.strings.now t.layout t.count
     (sym c.in_default.is ∙ c.broken_header.ensures)

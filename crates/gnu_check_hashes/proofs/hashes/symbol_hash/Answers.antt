@@ -5,11 +5,11 @@ use Rattle.gnu_check_hashes.proofs.hashes.symbol_hash.Goals as goal
 
 pub returns-in-Ok : goal.returns-in-Ok
 returns-in-Ok c =
-    let a = c.args in
+    let t = c.args.table in
     c.hash_at.ensures
-    ∙ sym (hash_in_at a.class a.order a.symbols.now a.strings.now a.symbol.0 _ (sym c.symbol_at.ensures ∙ c.in-Ok.is))
+    ∙ sym (hash_in_at t.class t.order t.symbols.now t.strings.now c.args.symbol.0 _ (sym c.symbol_at.ensures ∙ c.in-Ok.is))
 
 pub returns-in-Err : goal.returns-in-Err
 returns-in-Err c =
-    let a = c.args in
-    sym (hash_in_none a.class a.order a.symbols.now a.strings.now a.symbol.0 _ (sym c.symbol_at.ensures ∙ c.in-Err.is))
+    let t = c.args.table in
+    sym (hash_in_none t.class t.order t.symbols.now t.strings.now c.args.symbol.0 _ (sym c.symbol_at.ensures ∙ c.in-Err.is))

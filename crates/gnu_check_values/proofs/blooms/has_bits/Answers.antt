@@ -10,7 +10,7 @@ use Rattle.gnu_check_values.proofs.blooms.has_bits.Goals as goal
 pub returns : goal.returns
 unfolding hash_passes gnu_hash_at hash_in bloom_filter bloom_first bloom_second
 returns c =
-    let a = c.args in
+    let t = c.args.table in
     c.unwrap_or.ensures
     ∙ ap passes c.bloom_filter.ensures
-    ∙ ap (λ h. passes (bloom_filter (table_at a.class a.order a.table.now a.layout 0) h)) c.symbol_hash-hash.ensures
+    ∙ ap (λ h. passes (bloom_filter (table_at t.class t.order t.bytes.now t.layout 0) h)) c.symbol_hash-hash.ensures

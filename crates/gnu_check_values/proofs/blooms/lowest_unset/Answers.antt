@@ -2,18 +2,17 @@
 -- many symbols there are is not asked of one. Assumes nothing.
 use Rattle.std.proofs.Common.{◌≡◌, not, ap, ◌∙◌, option_map, rules}
 use Rattle.symbol.specs.Table.{symbol_index}
-use Rattle.gnu_table.specs.Layout.{table_with}
 use Rattle.gnu_table.specs.Table.{bloom_first, bloom_second, bloom_filter}
 use Rattle.gnu_rules.specs.Rules.{gnu_hash_at}
 use Rattle.lookup.proofs.Searching.{first_found}
+use Rattle.gnu_check_hashes.specs.Lent.{table_of}
 use Rattle.gnu_check_values.specs.Blooms.{hash_passes}
 use Rattle.gnu_check_values.proofs.blooms.lowest_unset.Goals as goal
 
 pub returns : goal.returns
 unfolding hash_passes gnu_hash_at bloom_filter bloom_first bloom_second
 returns c =
-    let a = c.args in
-    let t = table_with a.class a.order a.table.now a.symbols.now a.strings.now a.layout a.count in
+    let t = table_of c.args.table in
     let mapped : c.map.result ≡ option_map symbol_index c.find.result = search rules in
     mapped
     ∙ ap (option_map symbol_index)

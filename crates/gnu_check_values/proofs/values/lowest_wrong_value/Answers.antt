@@ -3,16 +3,15 @@
 use Rattle.std.proofs.Common.{◌≡◌, not, ap, ◌∙◌, option_map, rules}
 use Rattle.std.proofs.lemmas.Iterator.{serves_from_Range}
 use Rattle.symbol.specs.Table.{symbol_index}
-use Rattle.gnu_table.specs.Layout.{table_with}
 use Rattle.gnu_rules.specs.Rules.{gnu_hash_at, value_is_hash}
 use Rattle.lookup.proofs.Searching.{first_found}
+use Rattle.gnu_check_hashes.specs.Lent.{table_of}
 use Rattle.gnu_check_values.proofs.values.lowest_wrong_value.Goals as goal
 
 pub returns : goal.returns
 unfolding gnu_hash_at
 returns c =
-    let a = c.args in
-    let t = table_with a.class a.order a.table.now a.symbols.now a.strings.now a.layout a.count in
+    let t = table_of c.args.table in
     let mapped : c.map.result ≡ option_map symbol_index c.find.result = search rules in
     mapped
     ∙ ap (option_map symbol_index)
