@@ -19,6 +19,18 @@ pub enum Which {
     Unversioned,
 }
 
+// What is searched, and for what: the symbols of a library with their strings and versyms, of a class and an
+// order, and a name.
+#[derive(Clone, Copy)]
+pub struct Searched<'a> {
+    pub class: Class,
+    pub order: Order,
+    pub symbols: &'a [u8],
+    pub strings: &'a [u8],
+    pub versyms: &'a [u8],
+    pub name: &'a [u8],
+}
+
 fn is_defined(class: Class, order: Order, symbols: &[u8], symbol: SymbolIndex) -> bool
     ensures { result ≡ is_defined (symbol_at class order symbols.now symbol) }
 {
@@ -49,75 +61,50 @@ fn is_meant(order: Order, versyms: &[u8], which: Which, symbol: SymbolIndex) -> 
 // Whether a symbol bears the name, is not undefined, and is one of those that are meant; never where
 // a part that is looked at is too long.
 #[tactic(auto, unfolding(crate::specs::Definitions::defines_in))]
-pub fn defines(
-    class: Class,
-    order: Order,
-    symbols: &[u8],
-    strings: &[u8],
-    versyms: &[u8],
-    name: &[u8],
-    which: Which,
-    symbol: SymbolIndex,
-) -> bool
+pub fn defines(searched: Searched, which: Which, symbol: SymbolIndex) -> bool
     ensures { result
-        ≡ defines_in class order symbols.now strings.now versyms.now name.now
-        which symbol.0 }
+        ≡ defines_in searched.entry.class searched.entry.order searched.entry.symbols.now
+        searched.entry.strings.now searched.entry.versyms.now searched.entry.name.now which symbol.0 }
 {
+    let Searched {
+        class,
+        order,
+        symbols,
+        strings,
+        versyms,
+        name,
+    } = searched;
     has_name(class, order, symbols, strings, symbol, name)
         && is_defined(class, order, symbols, symbol)
         && is_meant(order, versyms, which, symbol)
 }
 
 // How many of the symbols 1 to `end - 1` are such definitions.
-fn count_below(
-    class: Class,
-    order: Order,
-    symbols: &[u8],
-    strings: &[u8],
-    versyms: &[u8],
-    name: &[u8],
-    which: Which,
-    end: u32,
-) -> u32
+fn count_below(searched: Searched, which: Which, end: u32) -> u32
     ensures { result
         ≡ count_in
-        (defines_in class order symbols.now strings.now versyms.now name.now which)
+        (defines_in searched.entry.class searched.entry.order searched.entry.symbols.now
+        searched.entry.strings.now searched.entry.versyms.now searched.entry.name.now which)
         end }
 {
     (1..end)
-        .filter(|i| {
-            defines(
-                class,
-                order,
-                symbols,
-                strings,
-                versyms,
-                name,
-                which,
-                SymbolIndex(*i),
-            )
-        })
+        .filter(|i| defines(searched, which, SymbolIndex(*i)))
         .count() as u32
 }
 
 // How many symbols but the null one bear the name, are not undefined, and are of those that are
 // meant. Refused: a part or a name that is too long.
-pub fn definitions_of(
-    class: Class,
-    order: Order,
-    symbols: &[u8],
-    strings: &[u8],
-    versyms: &[u8],
-    name: &[u8],
-    which: Which,
-) -> Result<u32, Refusal>
+pub fn definitions_of(searched: Searched, which: Which) -> Result<u32, Refusal>
     ensures { result
-        ≡ definitions_of class order symbols.now strings.now versyms.now name.now
-        which }
+        ≡ definitions_of searched.entry.class searched.entry.order searched.entry.symbols.now
+        searched.entry.strings.now searched.entry.versyms.now searched.entry.name.now which }
 {
-    if LIMIT < strings.len() || LIMIT < versyms.len() || LIMIT < name.len() {
+    if LIMIT < searched.strings.len()
+        || LIMIT < searched.versyms.len()
+        || LIMIT < searched.name.len()
+    {
         return Err(TOO_LONG);
     }
-    let end = symbol_count(class, symbols)?;
-    Ok(count_below(class, order, symbols, strings, versyms, name, which, end))
+    let end = symbol_count(searched.class, searched.symbols)?;
+    Ok(count_below(searched, which, end))
 }

@@ -5,8 +5,7 @@
 ghost use Rattle.std.specs.Prelude.{◌≡◌};
 ghost use Rattle.marks.specs.Marks.{marks_by, marks_for, marks_of, any_mark};
 
-use definitions::{Which, definitions_of};
-use endian::kinds::{Class, Order};
+use definitions::{Searched, Which, definitions_of};
 use endian::refusals::Refusal;
 use lookup::Lookup;
 use marks_entry::{EntryMarks, entry_marks};
@@ -60,19 +59,19 @@ fn marks_by(
 
 // The marks of an answer, of a name with so many definitions, and so many without a version.
 fn marks_for(
-    class: Class,
-    order: Order,
-    symbols: &[u8],
+    searched: Searched,
     need: Need,
     definitions: u32,
     unversioned: u32,
     answer: Result<Lookup, Refusal>,
 ) -> Result<Marks, Refusal>
-    ensures { result ≡ marks_for class order symbols.now need definitions unversioned answer }
+    ensures { result
+        ≡ marks_for searched.entry.class searched.entry.order searched.entry.symbols.now
+        need definitions unversioned answer }
 {
     match answer?.symbol {
         Some(symbol) => {
-            let entry = symbol_at(class, order, symbols, symbol)?;
+            let entry = symbol_at(searched.class, searched.order, searched.symbols, symbol)?;
             Ok(marks_by(need, definitions, unversioned, false, entry_marks(entry)))
         }
         None => Ok(marks_by(
@@ -88,36 +87,16 @@ fn marks_for(
 // The marks of an import, by the name, the need and the answer of its lookup. Refused in this order: a
 // part or a name that is too long; as the lookup was; a found number that no symbol has.
 pub fn marks_of(
-    class: Class,
-    order: Order,
-    symbols: &[u8],
-    strings: &[u8],
-    versyms: &[u8],
-    name: &[u8],
+    searched: Searched,
     need: Need,
     answer: Result<Lookup, Refusal>,
 ) -> Result<Marks, Refusal>
     ensures { result
-        ≡ marks_of class order symbols.now strings.now versyms.now name.now need
-        answer }
+        ≡ marks_of searched.entry.class searched.entry.order searched.entry.symbols.now
+        searched.entry.strings.now searched.entry.versyms.now searched.entry.name.now
+        need answer }
 {
-    let definitions = definitions_of(class, order, symbols, strings, versyms, name, Which::All)?;
-    let unversioned = definitions_of(
-        class,
-        order,
-        symbols,
-        strings,
-        versyms,
-        name,
-        Which::Unversioned,
-    )?;
-    marks_for(
-        class,
-        order,
-        symbols,
-        need,
-        definitions,
-        unversioned,
-        answer,
-    )
+    let definitions = definitions_of(searched, Which::All)?;
+    let unversioned = definitions_of(searched, Which::Unversioned)?;
+    marks_for(searched, need, definitions, unversioned, answer)
 }

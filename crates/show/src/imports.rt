@@ -4,6 +4,7 @@ use super::reasons::put_marks;
 use super::sample::{strings, table};
 use super::text::{put, put_left, put_number, put_refusal};
 use super::versions::put_version;
+use definitions::Searched;
 use endian::kinds::{Class, Order};
 use endian::refusals::Refusal;
 use gnu::find::find;
@@ -60,16 +61,15 @@ fn marks_at(
     need: Need,
     answer: Result<Lookup, Refusal>,
 ) -> Result<Marks, Refusal> {
-    marks_of(
-        Class::Elf64,
-        Order::Little,
-        &symbols(change),
-        &strings(),
-        &versyms(change),
+    let searched = Searched {
+        class: Class::Elf64,
+        order: Order::Little,
+        symbols: &symbols(change),
+        strings: &strings(),
+        versyms: &versyms(change),
         name,
-        need,
-        answer,
-    )
+    };
+    marks_of(searched, need, answer)
 }
 
 // The rest of the line of an import with this need, and what stands below it.

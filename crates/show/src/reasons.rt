@@ -3,7 +3,7 @@ use super::library::{Change, symbols, versyms};
 use super::sample::strings;
 use super::text::{put, put_refusal};
 use super::versions::put_definition;
-use definitions::{Which, defines};
+use definitions::{Searched, Which, defines};
 use endian::kinds::{Class, Order};
 use marks::Marks;
 use marks_entry::EntryMarks;
@@ -68,16 +68,15 @@ fn put_if_definition(
     name: &[u8],
     symbol: SymbolIndex,
 ) -> io::Result<()> {
-    if defines(
-        Class::Elf64,
-        Order::Little,
-        &symbols(change),
-        &strings(),
-        &versyms(change),
+    let searched = Searched {
+        class: Class::Elf64,
+        order: Order::Little,
+        symbols: &symbols(change),
+        strings: &strings(),
+        versyms: &versyms(change),
         name,
-        Which::All,
-        symbol,
-    ) {
+    };
+    if defines(searched, Which::All, symbol) {
         put_definition(rt, change, store, symbol)?;
     }
     Ok(())

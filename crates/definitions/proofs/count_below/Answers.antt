@@ -9,7 +9,8 @@ use Rattle.definitions.proofs.count_below.Goals as goal
 pub returns : goal.returns
 returns c =
     let a = c.args in
-    let defines = defines_in a.class a.order a.symbols.now a.strings.now a.versyms.now a.name.now a.which in
+    let s = a.searched in
+    let defines = defines_in s.class s.order s.symbols.now s.strings.now s.versyms.now s.name.now a.which in
     count_from_yields_List _ _ c.count.ensures.ran
     (YieldsList-from_filter _ defines (YieldsList-from_range 1 a.end (a.end - 1) (cc) refl) c.filter.ensures.closure
     (λ x b q called. search rules))

@@ -19,9 +19,10 @@ pub returns : goal.returns
 unfolding marks_of
 returns c =
     let a = c.args in
+    let s = a.searched in
     let count : Which → ℕ =
-    λ which. count_in (defines_in a.class a.order a.symbols.now a.strings.now a.versyms.now a.name.now which) (symbols_in a.class a.symbols.now) in
+    λ which. count_in (defines_in s.class s.order s.symbols.now s.strings.now s.versyms.now s.name.now which) (symbols_in s.class s.symbols.now) in
     c.marks_for.ensures
-    ∙ short_told (any_long (a.strings.now ∷ a.versyms.now ∷ a.name.now ∷ a.symbols.now ∷ [])) (count All) (count Unversioned) _ _ too_long
-    (λ m n. marks_for a.class a.order a.symbols.now a.need m n a.answer)
+    ∙ short_told (any_long (s.strings.now ∷ s.versyms.now ∷ s.name.now ∷ s.symbols.now ∷ [])) (count All) (count Unversioned) _ _ too_long
+    (λ m n. marks_for s.class s.order s.symbols.now a.need m n a.answer)
     c.in_ok-definitions.ensures c.in_ok-unversioned.ensures
