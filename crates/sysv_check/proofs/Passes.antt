@@ -1,4 +1,5 @@
 -- The checker's answer from the answers of its passes, and from what its first steps refuse.
+--     header_is                     the header by its two numbers
 --     shaped_facts                  what T1 leaves to the passes after it
 --     check_1, _2, _3, _all         the first rule that is broken, or none
 --     check_from, check_from_lem    the checker's answer by the counted symbols and the header
@@ -19,7 +20,7 @@ use Rattle.lookup.specs.Wanted.{name_of}
 use Rattle.lookup.proofs.Picking.{and_left, and_right}
 use Rattle.readable_names.specs.Readable.{readable_in}
 use Rattle.sysv_header.specs.declared.header.Header.{Header}
-use Rattle.sysv_header.specs.Header.{sysv_fault}
+use Rattle.sysv_header.specs.Header.{bucket_count_of, chain_count_of, sysv_fault}
 use Rattle.sysv_header.specs.Reading.{header_of, header_at}
 use Rattle.sysv.specs.Layout.{sysv_table_of}
 use Rattle.sysv.specs.Table.{SysvTable}
@@ -31,6 +32,10 @@ use Rattle.sysv_check_chains.specs.Hash.{sysv_hash_at}
 use Rattle.sysv_check.specs.Check.{sysv_check}
 use Rattle.sysv_check.proofs.Counted.{counted}
 use Rattle.sysv_check.proofs.Readings.{every_searched, every_missed}
+
+pub header_is : (order : Order) (table : List ℕ) (buckets chains : ℕ) → buckets ≡ bucket_count_of order table
+    → chains ≡ chain_count_of order table → record { bucket_count = buckets; chain_count = chains } ≡ header_of order table
+header_is order table buckets chains first second = rw (first, second)
 
 pub shaped_facts : (buckets chains count low : ℕ) → t1 buckets chains count low ≡ true → (1 ≤ buckets) × (low ≤ count)
 shaped_facts buckets chains count low h =

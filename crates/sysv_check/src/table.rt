@@ -1,7 +1,7 @@
 // The checker: its refusals, then its rules in order.
 ghost use Rattle.std.specs.Prelude.{◌≡◌};
 ghost use Rattle.symbol.specs.Table.{symbols_in};
-ghost use Rattle.sysv_header.specs.Reading.{header_of};
+ghost use Rattle.sysv_header.specs.Header.{bucket_count_of, chain_count_of};
 ghost use Rattle.sysv.specs.Layout.{sysv_table_of};
 ghost use Rattle.sysv_check.specs.Rules.{t1, sysv_table_check};
 ghost use Rattle.sysv_check.specs.Check.{sysv_check};
@@ -11,8 +11,8 @@ use endian::kinds::{Class, Order};
 use endian::refusals::{LIMIT, Refusal, TOO_LONG};
 use readable_names::lowest_unreadable;
 use symbol::table::{SymbolIndex, symbol_count};
-use sysv_check_chains::chains::chains_hold;
-use sysv_header::header::{Header, header_of};
+use sysv_check_chains::chains::{Chains, chains_hold};
+use sysv_header::header::header_of;
 
 // The first symbol that must be found.
 const FIRST_GLOBAL: u32 = 1;
@@ -39,40 +39,32 @@ fn has_shape(buckets: u32, chains: u32, count: u32, low: u32) -> bool
     1 <= low && low <= count && chains == count && 1 <= buckets
 }
 
-// The rules in order.
-fn check_rules(
-    class: Class,
-    order: Order,
-    table: &[u8],
-    symbols: &[u8],
-    strings: &[u8],
-    header: Header,
-    count: u32,
-    low: u32,
-) -> Result<(), Fault>
-    requires { (header ≡ header_of order table.now) × (count ≡ symbols_in class symbols.now) }
+// The rules in order, for a table of so many chains.
+fn check_rules(chains: Chains, chain_count: u32) -> Result<(), Fault>
+    requires { (chains.buckets ≡ bucket_count_of chains.order chains.table.now)
+        × (chain_count ≡ chain_count_of chains.order chains.table.now)
+        × (chains.count ≡ symbols_in chains.class chains.symbols.now) }
     ensures { result
-        ≡ sysv_table_check (sysv_table_of class order table.now symbols.now strings.now) low }
+        ≡ sysv_table_check (sysv_table_of chains.entry.class chains.entry.order chains.entry.table.now
+        chains.entry.symbols.now chains.entry.strings.now) chains.entry.first.0 }
 {
-    let buckets = header.bucket_count;
-    if !has_shape(buckets, header.chain_count, count, low) {
-        return Err(Fault::Broken(1));
-    }
-    let first = SymbolIndex(low);
-    if lowest_unreadable(class, order, symbols, strings, first, count).is_some() {
-        return Err(Fault::Broken(2));
-    }
-    if !chains_hold(
+    let Chains {
         class,
         order,
-        table,
         symbols,
         strings,
         buckets,
         count,
         first,
-        count - low,
-    ) {
+        ..
+    } = chains;
+    if !has_shape(buckets, chain_count, count, first.0) {
+        return Err(Fault::Broken(1));
+    }
+    if lowest_unreadable(class, order, symbols, strings, first, count).is_some() {
+        return Err(Fault::Broken(2));
+    }
+    if !chains_hold(chains, count - first.0) {
         return Err(Fault::Broken(3));
     }
     Ok(())
@@ -94,14 +86,15 @@ pub fn check(
     }
     let count = symbol_count(class, symbols)?;
     let header = header_of(order, table)?;
-    check_rules(
+    let chains = Chains {
         class,
         order,
         table,
         symbols,
         strings,
-        header,
+        buckets: header.bucket_count,
         count,
-        FIRST_GLOBAL,
-    )
+        first: SymbolIndex(FIRST_GLOBAL),
+    };
+    check_rules(chains, header.chain_count)
 }

@@ -1,2 +1,3 @@
 pub mod Hash
+pub mod Lent
 pub mod Pass

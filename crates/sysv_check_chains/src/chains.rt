@@ -1,50 +1,60 @@
 // T3, by one walk along every chain.
-ghost use Rattle.std.specs.Prelude.{◌≡◌, ℕ, Bool, ◌+◌, ◌*◌, ◌%◌, ◌^◌, ◌<◌, is_some};
-ghost use Rattle.endian.specs.Word.{word_at};
-ghost use Rattle.lookup.specs.Wanted.{name_of};
-ghost use Rattle.sysv_check_chains.specs.Pass.{in_range, may_stand, all_spent, follow as followed};
-ghost use Rattle.sysv_check_chains.specs.Hash.{sysv_hash_at};
+ghost use Rattle.std.specs.Prelude.{◌≡◌, ℕ, Bool, ◌^◌, ◌<◌, is_some};
+ghost use Rattle.sysv_check_chains.specs.Pass.{in_range, all_spent, follow as followed};
+ghost use Rattle.sysv_check_chains.specs.Lent.{chain_of, bucket_of, may_stand_of};
 
 use super::names::symbol_hash;
 use endian::kinds::{Class, Order};
 use symbol::table::SymbolIndex;
 use word::u32_at;
 
+// The chains of a table of so many buckets, with the symbols that are to stand on them: those from
+// `first` on and below the count.
+#[derive(Clone, Copy)]
+pub struct Chains<'a> {
+    pub class: Class,
+    pub order: Order,
+    pub table: &'a [u8],
+    pub symbols: &'a [u8],
+    pub strings: &'a [u8],
+    pub buckets: u32,
+    pub count: u32,
+    pub first: SymbolIndex,
+}
+
+impl<'a> Chains<'a> {
+    // The number that the chain of a bucket starts with.
+    fn start(self, b: u32) -> u32
+        ensures { result ≡ bucket_of self.entry b }
+    {
+        u32_at(self.order, self.table, 8 + b as usize * 4)
+    }
+
+    // The number that comes after a number on its chain.
+    fn next(self, number: u32) -> u32
+        ensures { result ≡ chain_of self.entry number }
+    {
+        let chains_at = 8 + self.buckets as usize * 4;
+        u32_at(self.order, self.table, chains_at + number as usize * 4)
+    }
+}
+
 // Whether number i may stand on the chain of bucket b.
-fn may_stand(
-    class: Class,
-    order: Order,
-    symbols: &[u8],
-    strings: &[u8],
-    buckets: u32,
-    count: u32,
-    low: u32,
-    b: u32,
-    i: u32,
-) -> bool
-    requires { 0 < buckets }
-    ensures { result
-        ≡ may_stand (λ j. sysv_hash_at (name_of class order symbols.now strings.now) j % buckets) low count b i }
+fn may_stand(chains: Chains, b: u32, i: u32) -> bool
+    requires { 0 < chains.buckets }
+    ensures { result ≡ may_stand_of chains.entry b i }
 {
-    low <= i
-        && i < count
-        && symbol_hash(class, order, symbols, strings, SymbolIndex(i)) % buckets == b
+    chains.first.0 <= i
+        && i < chains.count
+        && symbol_hash(chains, SymbolIndex(i)) % chains.buckets == b
 }
 
 // Along the chain from a number on, with so many steps left: what is left of them where the chain comes
 // to 0 by numbers that may stand on it, or none where something is wrong with it.
-fn follow<F: Fn(u32) -> bool>(
-    order: Order,
-    table: &[u8],
-    chains_at: usize,
-    start: u32,
-    left: u32,
-    may: F,
-) -> Option<u32>
+fn follow<F: Fn(u32) -> bool>(chains: Chains, start: u32, left: u32, may: F) -> Option<u32>
     requires may { F.IsAlwaysCallable may }
-    requires within { chains_at < 2 ^ 40 }
     ensures { (test : ℕ → Bool) → ((i : ℕ) (b : Bool) → i < 2 ^ 32 → F.post may i b → test i ≡ b)
-        → result ≡ followed (λ j. word_at order 4 table.now (chains_at + j * 4)) test left start }
+        → result ≡ followed (chain_of chains.entry) test left start }
 {
     let mut number = start;
     let mut k = left;
@@ -53,68 +63,41 @@ fn follow<F: Fn(u32) -> bool>(
             return None;
         }
         k -= 1;
-        number = u32_at(order, table, chains_at + number as usize * 4);
+        number = chains.next(number);
     }
     Some(k)
 }
 
-// Whether the chain from a number on comes to 0 in so many steps, by numbers from low on and below
+// Whether the chain from a number on comes to 0 in so many steps, by numbers from `first` on and below
 // the count. No name is looked at: a chain in a circle is found before a name on it is hashed twice.
-fn chain_ends(
-    order: Order,
-    table: &[u8],
-    chains_at: usize,
-    count: u32,
-    low: u32,
-    start: u32,
-    left: u32,
-) -> bool
-    requires { chains_at < 2 ^ 40 }
+fn chain_ends(chains: Chains, start: u32, left: u32) -> bool
     ensures { result
-        ≡ is_some (followed (λ j. word_at order 4 table.now (chains_at + j * 4)) (in_range low count)
+        ≡ is_some (followed (chain_of chains.entry) (in_range chains.entry.first.0 chains.entry.count)
         left start) }
 {
     follow(
-        order,
-        table,
-        chains_at,
+        chains,
         start,
         left,
-        |i| low <= i && i < count,
+        |i| chains.first.0 <= i && i < chains.count,
     )
     .is_some()
 }
 
 // Whether all chains together take exactly so many steps, and only numbers from `first` on and below
 // the count stand on them, each on the chain of its hash.
-pub fn chains_hold(
-    class: Class,
-    order: Order,
-    table: &[u8],
-    symbols: &[u8],
-    strings: &[u8],
-    buckets: u32,
-    count: u32,
-    first: SymbolIndex,
-    steps: u32,
-) -> bool
+pub fn chains_hold(chains: Chains, steps: u32) -> bool
     ensures { result
-        ≡ all_spent (λ j. word_at order 4 table.now (8 + buckets * 4 + j * 4))
-        (λ b. word_at order 4 table.now (8 + b * 4))
-        (may_stand (λ j. sysv_hash_at (name_of class order symbols.now strings.now) j % buckets) first.0 count)
-        buckets steps }
+        ≡ all_spent (chain_of chains.entry) (bucket_of chains.entry) (may_stand_of chains.entry)
+        chains.entry.buckets steps }
 {
-    let low = first.0;
-    let chains_at = 8 + buckets as usize * 4;
     let mut left = steps;
-    for b in 0..buckets {
-        let start = u32_at(order, table, 8 + b as usize * 4);
-        if !chain_ends(order, table, chains_at, count, low, start, left) {
+    for b in 0..chains.buckets {
+        let start = chains.start(b);
+        if !chain_ends(chains, start, left) {
             return false;
         }
-        let Some(k) = follow(order, table, chains_at, start, left, |i| {
-            may_stand(class, order, symbols, strings, buckets, count, low, b, i)
-        }) else {
+        let Some(k) = follow(chains, start, left, |i| may_stand(chains, b, i)) else {
             return false;
         };
         left = k;

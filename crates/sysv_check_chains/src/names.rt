@@ -5,7 +5,7 @@ ghost use Rattle.name_hash.specs.Hash.{sysv_hash};
 ghost use Rattle.lookup.specs.Wanted.{name_of};
 ghost use Rattle.sysv_check_chains.specs.Hash.{sysv_hash_at};
 
-use endian::kinds::{Class, Order};
+use super::chains::Chains;
 use name_hash::sysv_hash;
 use strings::Place;
 use symbol::table::{SymbolIndex, symbol_name};
@@ -20,17 +20,19 @@ fn part_hash(strings: &[u8], place: Place) -> u32
 }
 
 // The hash of a symbol's name; of one that cannot be read, that of the empty name.
-pub(crate) fn symbol_hash(
-    class: Class,
-    order: Order,
-    symbols: &[u8],
-    strings: &[u8],
-    symbol: SymbolIndex,
-) -> u32
-    ensures { result ≡ sysv_hash_at (name_of class order symbols.now strings.now) symbol.0 }
+pub(crate) fn symbol_hash(chains: Chains, symbol: SymbolIndex) -> u32
+    ensures { result
+        ≡ sysv_hash_at (name_of chains.entry.class chains.entry.order chains.entry.symbols.now
+        chains.entry.strings.now) symbol.0 }
 {
-    match symbol_name(class, order, symbols, strings, symbol) {
-        Ok(place) => part_hash(strings, place),
+    match symbol_name(
+        chains.class,
+        chains.order,
+        chains.symbols,
+        chains.strings,
+        symbol,
+    ) {
+        Ok(place) => part_hash(chains.strings, place),
         Err(_) => 0,
     }
 }

@@ -1,5 +1,5 @@
 -- `sysv_check::table::check` meets its contract. Each answer is told what `symbol_count` and `header_of` answered. Assumes nothing.
-use Rattle.std.proofs.Common.{◌≡◌, Err, sym, ◌∙◌, rules, lt-ltb, le-ltb}
+use Rattle.std.proofs.Common.{◌≡◌, Err, sym, ap, ◌∙◌, rules, lt-ltb, le-ltb}
 use Rattle.sysv_header.proofs.Headers.{header_read}
 use Rattle.sysv_check.specs.declared.table.Fault.TheVariants.{Refused}
 use Rattle.sysv_check.proofs.Passes.{check_from_lem, count_read}
@@ -21,10 +21,12 @@ returns-in_err-header c =
     ∙ rw (le-ltb _ _ c.if-strings-gt-LIMIT.false, ← c.in_ok-count.ensures, ← c.in_err-header.ensures))
 
 pub check_rules-requires : goal.check_rules-requires
-check_rules-requires c = (
-  (header_read c.args.order c.args.table.now _ (sym c.in_ok-header.ensures)).2,
-  count_read c.args.class c.args.symbols.now _ (sym c.in_ok-count.ensures),
-)
+check_rules-requires c =
+    let own = (header_read c.args.order c.args.table.now _ (sym c.in_ok-header.ensures)).2 in (
+      ap (λ header. header.bucket_count) own,
+      ap (λ header. header.chain_count) own,
+      count_read c.args.class c.args.symbols.now _ (sym c.in_ok-count.ensures),
+    )
 
 pub returns : goal.returns
 returns c =

@@ -6,4 +6,4 @@ use Rattle.sysv_check_chains.proofs.chains.chain_ends.Goals as goal
 pub returns : goal.returns
 returns c =
     c.is_some.ensures
-    ∙ ap is_some (c.follow.ensures (in_range c.args.low c.args.count) (λ i b low called. grind (arith, tests)))
+    ∙ ap is_some (c.follow.ensures (in_range c.args.chains.first.0 c.args.chains.count) (λ i b low called. grind (arith, tests)))

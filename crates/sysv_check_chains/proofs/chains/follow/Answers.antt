@@ -26,7 +26,7 @@ loop-number-preserved g c =
       at.invariant.0,
       search rules,
       λ test agrees.
-          rw c.u32_at-number.ensures
+          rw c.next-number.ensures
           (following_on _ _ _ _ at.number at.k (at.invariant.2 test agrees) c.loop-number-test.true (omega (arith, c.if-k-eq0.false))
           (agrees at.number c.may.result at.invariant.1 c.may.ensures ∙ c.if-not-may.false)),
     )

@@ -5,16 +5,16 @@ use Rattle.sysv_check_chains.proofs.names.symbol_hash.Goals as goal
 
 pub part_hash-requires : goal.part_hash-requires
 part_hash-requires c =
-    let a = c.args in
-    name_inside a.class a.order a.symbols.now a.strings.now a.symbol.0 _ (sym c.symbol_name.ensures ∙ c.in-Ok.is)
+    let a = c.args.chains in
+    name_inside a.class a.order a.symbols.now a.strings.now c.args.symbol.0 _ (sym c.symbol_name.ensures ∙ c.in-Ok.is)
 
 pub returns-in-Ok : goal.returns-in-Ok
 returns-in-Ok c =
-    let a = c.args in
+    let a = c.args.chains in
     c.part_hash.ensures
-    ∙ sym (hash_read a.class a.order a.symbols.now a.strings.now a.symbol.0 _ (sym c.symbol_name.ensures ∙ c.in-Ok.is))
+    ∙ sym (hash_read a.class a.order a.symbols.now a.strings.now c.args.symbol.0 _ (sym c.symbol_name.ensures ∙ c.in-Ok.is))
 
 pub returns-in-Err : goal.returns-in-Err
 returns-in-Err c =
-    let a = c.args in
-    sym (hash_unread a.class a.order a.symbols.now a.strings.now a.symbol.0 _ (sym c.symbol_name.ensures ∙ c.in-Err.is))
+    let a = c.args.chains in
+    sym (hash_unread a.class a.order a.symbols.now a.strings.now c.args.symbol.0 _ (sym c.symbol_name.ensures ∙ c.in-Err.is))
