@@ -91,7 +91,7 @@ def twins():
 
 def loops():
     for path, text in sources():
-        for m in re.finditer(r"^\s*(?:'\w+: )?(while .*|loop) \{|^\s*(for \w+ in [^.\n]*\.\..*) \{", text, re.M):
+        for m in re.finditer(r"^\s*(?:let \w+ = )?(?:'\w+: )?(while .*|loop) \{|^\s*(for \w+ in .*\.\..*) \{", text, re.M):
             yield path, line_of(text, m.end()), m.group(1) or m.group(2)
 
 
