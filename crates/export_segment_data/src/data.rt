@@ -1,8 +1,9 @@
 // The bytes of a segment in the file, for C.
 ghost use Rattle.std.specs.Prelude.{◌≡◌};
 ghost use Rattle.segment_data.specs.Part.{segment_data, segment_data_range};
+ghost use Rattle.export.specs.Answers.{place_of};
 ghost use Rattle.export.specs.Parts.{entry};
-ghost use Rattle.export_segment_data.specs.Data.{data_answer, range_answer, place_part};
+ghost use Rattle.export_segment_data.specs.Data.{place_part};
 
 use endian::refusals::Refusal;
 use export::answers::{PlaceAnswer, place_answer};
@@ -13,7 +14,7 @@ use strings::Place;
 // The bytes of a segment in the file.
 #[unsafe(no_mangle)]
 pub extern "C" fn fetulombo_segment_data(file: &[u8], offset: u64, filesz: u64) -> PlaceAnswer
-    ensures { result ≡ data_answer (segment_data file.now (entry 0 offset 0 filesz 0)) }
+    ensures { result ≡ place_of (segment_data file.now (entry 0 offset 0 filesz 0)) }
 {
     place_answer(segment_data(file, entry_of(0, offset, 0, filesz, 0)))
 }
@@ -39,7 +40,7 @@ pub extern "C" fn fetulombo_segment_data_range(
     address: u64,
     size: u64,
 ) -> PartAnswer
-    ensures { result ≡ range_answer (segment_data_range file.now (entry 0 offset vaddr filesz 0) address size) }
+    ensures { result ≡ place_part (segment_data_range file.now (entry 0 offset vaddr filesz 0) address size) }
 {
     let segment = entry_of(0, offset, vaddr, filesz, 0);
     place_part(segment_data_range(file, segment, address, size))

@@ -4,7 +4,8 @@ ghost use Rattle.endian.specs.declared.kinds.Order.TheVariants.{Little};
 ghost use Rattle.segment_parts.specs.Interpreter.{segment_interpreter};
 ghost use Rattle.segment_parts.specs.SegmentNotes.{segment_notes};
 ghost use Rattle.export.specs.Parts.{entry};
-ghost use Rattle.export_segment_data.specs.Parts.{interpreter_answer, notes_answer};
+ghost use Rattle.export_segment_data.specs.Data.{place_part};
+ghost use Rattle.export_segment_data.specs.Parts.{notes_answer};
 
 use crate::data::place_part;
 use endian::kinds::Order;
@@ -20,7 +21,7 @@ pub extern "C" fn fetulombo_segment_interpreter(
     offset: u64,
     filesz: u64,
 ) -> PartAnswer
-    ensures { result ≡ interpreter_answer (segment_interpreter file.now (entry kind offset 0 filesz 0)) }
+    ensures { result ≡ place_part (segment_interpreter file.now (entry kind offset 0 filesz 0)) }
 {
     let segment = entry_of(kind, offset, 0, filesz, 0);
     place_part(segment_interpreter(file, segment))
