@@ -3,5 +3,6 @@ pub mod First
 pub mod InOrder
 pub mod Kinds
 pub mod Lent
+pub mod Printed
 pub mod Refusals
 pub mod Word

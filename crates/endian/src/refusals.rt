@@ -1,7 +1,8 @@
 // The size limit, and the refusals by their numbers: document 01's, and our own.
-ghost use Rattle.std.specs.Prelude.{◌≡◌, map};
+ghost use Rattle.std.specs.Prelude.{◌≡◌, Some, map};
 ghost use Rattle.endian.specs.InOrder.{refusals};
 ghost use Rattle.endian.specs.Lent.{now_of};
+ghost use Rattle.endian.specs.Printed.{refusal_text};
 ghost use Rattle.endian.specs.Refusals.{limit, any_long};
 
 use std::error::Error;
@@ -15,6 +16,8 @@ pub const LIMIT: usize = 1073741824;
 pub struct Refusal(pub u32);
 
 impl fmt::Display for Refusal {
+    ghost output = { λ r. Some (refusal_text r) };
+
     fn fmt<W: fmt::Write>(&self, f: &mut fmt::Formatter<W>) -> fmt::Result {
         write!(f, "refused, number {}", self.0)
     }

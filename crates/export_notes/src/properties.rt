@@ -88,9 +88,8 @@ pub extern "C" fn fetulombo_property_step(
 {
     match known(class, order, &[descriptor]) {
         Ok((class, order)) => {
-            let mut reader = PropertyReader { class, order, at };
-            let found = reader.step(descriptor);
-            property_answer(found, reader.at)
+            let (found, next) = PropertyReader { class, order, at }.step(descriptor);
+            property_answer(found, next.at)
         }
         Err(refusal) => no_property(refusal.0, descriptor.len()),
     }

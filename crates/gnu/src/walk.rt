@@ -38,7 +38,19 @@ pub(crate) fn walk(
         probes += 1;
         let value = word_of(order, parts.table, values_at, i - base);
         let symbol = SymbolIndex(i);
-        if value / 2 == hash / 2 && is_wanted(class, order, parts, symbol, asked) {
+        if value / 2 == hash / 2
+            && is_wanted(
+                class,
+                order,
+                parts.symbols,
+                parts.strings,
+                parts.versyms,
+                parts.store,
+                parts.version_strings,
+                symbol,
+                asked,
+            )
+        {
             break Some(symbol);
         }
         if value % 2 == 1 {

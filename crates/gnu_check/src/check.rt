@@ -36,7 +36,7 @@ fn check_buckets(table: Table) -> Result<usize, Fault>
             place: end.0,
         });
     }
-    Ok(longest_chain(table))
+    Ok(longest_chain(table.order, table.bytes, table.layout, table.count))
 }
 
 // G6 to G8, then the buckets.

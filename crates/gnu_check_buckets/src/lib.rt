@@ -22,7 +22,14 @@ fn bucket_of(table: Table, symbol: SymbolIndex) -> u32
         % table.entry.layout.bucket_count)
         × (result < table.entry.layout.bucket_count) }
 {
-    symbol_hash(table, symbol) % table.layout.bucket_count
+    let Table {
+        class,
+        order,
+        symbols,
+        strings,
+        ..
+    } = table;
+    symbol_hash(class, order, symbols, strings, symbol) % table.layout.bucket_count
 }
 
 // The lesser of two numbers, where there are any.

@@ -9,8 +9,10 @@ ghost use Rattle.gnu_table.specs.Table.{odd};
 ghost use Rattle.gnu_check_hashes.specs.Lent.{table_of};
 ghost use Rattle.gnu_check_ends.specs.Ends.{last_in, ends_run, wrong_end, longest_chain};
 
+use endian::kinds::Order;
 use gnu_check_hashes::hashes::symbol_hash;
 use gnu_check_hashes::table::Table;
+use gnu_table::header::Layout;
 use gnu_table::words::word_of;
 use symbol::table::SymbolIndex;
 
@@ -26,8 +28,15 @@ fn is_last(table: Table, symbol: SymbolIndex) -> bool
         return true;
     }
     let buckets = table.layout.bucket_count;
-    let b = symbol_hash(table, symbol) % buckets;
-    symbol_hash(table, SymbolIndex(next)) % buckets != b
+    let Table {
+        class,
+        order,
+        symbols,
+        strings,
+        ..
+    } = table;
+    let b = symbol_hash(class, order, symbols, strings, symbol) % buckets;
+    symbol_hash(class, order, symbols, strings, SymbolIndex(next)) % buckets != b
 }
 
 fn ends_right(table: Table, symbol: SymbolIndex) -> bool
@@ -65,17 +74,17 @@ fn chain_start(value: u32, start: u32, next: u32) -> u32
 }
 
 // The longest chain, by the low bits, or 0. `start` is where the current chain starts.
-pub fn longest_chain(table: Table) -> usize
+pub fn longest_chain(order: Order, table: &[u8], layout: Layout, count: u32) -> usize
     ensures { result
-        ≡ longest_chain table.entry.layout.symbol_base
-        (λ k. word_at table.entry.order 4 table.entry.bytes.now (table.entry.layout.values_at + k * 4))
-        table.entry.count }
+        ≡ longest_chain layout.symbol_base
+        (λ k. word_at order 4 table.now (layout.values_at + k * 4))
+        count }
 {
-    let base = table.layout.symbol_base;
+    let base = layout.symbol_base;
     let mut longest: u32 = 0;
     let mut start = base;
-    for i in base..table.count {
-        let value = word_of(table.order, table.bytes, table.layout.values_at, i - base);
+    for i in base..count {
+        let value = word_of(order, table, layout.values_at, i - base);
         let next = i + 1;
         longest = longest.max(next - start);
         start = chain_start(value, start, next);

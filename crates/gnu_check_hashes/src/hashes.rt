@@ -2,7 +2,7 @@
 ghost use Rattle.std.specs.Prelude.{◌≡◌};
 ghost use Rattle.gnu_check_hashes.specs.Names.{hash_at, hash_in};
 
-use super::table::Table;
+use endian::kinds::{Class, Order};
 use endian::refusals::LIMIT;
 use name_hash::gnu_step;
 use symbol::table::{SymbolIndex, symbol_at};
@@ -28,12 +28,17 @@ fn hash_at(strings: &[u8], offset: u32) -> u32
 }
 
 // The hash of a symbol's name; of one that cannot be read, that of the empty name.
-pub fn symbol_hash(table: Table, symbol: SymbolIndex) -> u32
-    ensures { result
-        ≡ hash_in table.entry.class table.entry.order table.entry.symbols.now table.entry.strings.now symbol.0 }
+pub fn symbol_hash(
+    class: Class,
+    order: Order,
+    symbols: &[u8],
+    strings: &[u8],
+    symbol: SymbolIndex,
+) -> u32
+    ensures { result ≡ hash_in class order symbols.now strings.now symbol.0 }
 {
-    match symbol_at(table.class, table.order, table.symbols, symbol) {
-        Ok(entry) => hash_at(table.strings, entry.name),
+    match symbol_at(class, order, symbols, symbol) {
+        Ok(entry) => hash_at(strings, entry.name),
         Err(_) => 5381,
     }
 }

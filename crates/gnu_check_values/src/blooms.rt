@@ -13,7 +13,14 @@ use symbol::table::SymbolIndex;
 fn has_bits(table: Table, symbol: SymbolIndex) -> bool
     ensures { result ≡ hash_passes (table_of table.entry) symbol.0 }
 {
-    let hash = symbol_hash(table, symbol);
+    let Table {
+        class,
+        order,
+        symbols,
+        strings,
+        ..
+    } = table;
+    let hash = symbol_hash(class, order, symbols, strings, symbol);
     bloom_filter(table.class, table.order, table.bytes, table.layout, hash).unwrap_or(false)
 }
 

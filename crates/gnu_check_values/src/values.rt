@@ -20,7 +20,14 @@ fn value_is_right(table: Table, symbol: SymbolIndex) -> bool
         table.layout.values_at,
         symbol.0 - table.layout.symbol_base,
     );
-    value / 2 == symbol_hash(table, symbol) / 2
+    let Table {
+        class,
+        order,
+        symbols,
+        strings,
+        ..
+    } = table;
+    value / 2 == symbol_hash(class, order, symbols, strings, symbol) / 2
 }
 
 // The lowest hashed symbol whose value is wrong, where there is one.

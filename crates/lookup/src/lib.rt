@@ -4,7 +4,7 @@
 
 ghost use Rattle.std.specs.Prelude.{◌≡◌, min};
 ghost use Rattle.endian.specs.Refusals.{any_long};
-ghost use Rattle.lookup.specs.Wanted.{name_of, is_named, wanted, all_parts};
+ghost use Rattle.lookup.specs.Wanted.{name_of, is_named, wanted_in, all_parts};
 ghost use Rattle.lookup.specs.Lent.{parts_of, asked_of};
 
 use endian::kinds::{Class, Order};
@@ -82,24 +82,29 @@ pub fn has_name(
 pub fn is_wanted(
     class: Class,
     order: Order,
-    parts: Parts,
+    symbols: &[u8],
+    strings: &[u8],
+    versyms: &[u8],
+    store: &[u32],
+    version_strings: &[u8],
     symbol: SymbolIndex,
     asked: Asked,
 ) -> bool
     ensures { result
-        ≡ wanted class order (parts_of parts.entry) (asked_of asked.entry) symbol.0 }
+        ≡ wanted_in class order symbols.now strings.now versyms.now store.now version_strings.now
+        (asked_of asked.entry) symbol.0 }
 {
     let Asked {
         name,
         need,
         need_name,
     } = asked;
-    has_name(class, order, parts.symbols, parts.strings, symbol, name)
+    has_name(class, order, symbols, strings, symbol, name)
         && matches(
             order,
-            parts.versyms,
-            parts.store,
-            parts.version_strings,
+            versyms,
+            store,
+            version_strings,
             symbol,
             need,
             need_name,

@@ -16,6 +16,13 @@ pub struct Notes<'a> {
     pub reader: NoteReader,
 }
 
+// What a step found, and the notes that are left after it.
+#[derive(Clone, Copy)]
+pub struct Stepped<'a> {
+    pub answer: Result<Option<Note>, Refusal>,
+    pub next: Notes<'a>,
+}
+
 // The bytes with a reader.
 pub fn notes_of<'a>(bytes: &'a [u8], reader: NoteReader) -> Notes<'a>
     ensures { result ≡ notes_at bytes.entry reader }
@@ -24,15 +31,20 @@ pub fn notes_of<'a>(bytes: &'a [u8], reader: NoteReader) -> Notes<'a>
 }
 
 impl<'a> Notes<'a> {
-    // One note further: as `NoteReader::step`, with the reader moved.
+    // One note further: as `NoteReader::step`, with the reader moved. By value, as document 01's readers.
     // No `Iterator`, which would not end: over bytes that are too long each step is refused anew.
-    pub fn next(&mut self) -> Result<Option<Note>, Refusal>
-        ensures found { result ≡ answered self.old }
-        ensures moved { self.new ≡ stepped self.old }
+    pub fn next(self) -> Stepped<'a>
+        ensures found { result.answer ≡ answered self.entry }
+        ensures moved { result.next ≡ stepped self.entry }
     {
-        let (found, reader) = self.reader.step(self.bytes);
-        self.reader = reader;
-        found
+        let (answer, reader) = self.reader.step(self.bytes);
+        Stepped {
+            answer,
+            next: Notes {
+                bytes: self.bytes,
+                reader,
+            },
+        }
     }
 }
 
@@ -40,5 +52,5 @@ impl<'a> Notes<'a> {
 pub fn first_step(bytes: &[u8], reader: NoteReader) -> Result<Option<Note>, Refusal>
     ensures { result ≡ note_step reader bytes.now }
 {
-    notes_of(bytes, reader).next()
+    notes_of(bytes, reader).next().answer
 }

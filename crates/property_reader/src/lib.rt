@@ -40,12 +40,23 @@ fn property_align(class: Class) -> Align
 }
 
 impl PropertyReader {
-    // One property further, from any place. Refused first: bytes that are too long. Then a reader at
+    // One property further, from any place: what is found, and the reader that stands after it. By value,
+    // as document 01's readers. Refused as `advance`.
+    pub fn step(self, bytes: &[u8]) -> (Result<Option<Property>, Refusal>, PropertyReader)
+        ensures found { result.0 ≡ property_step self bytes.now }
+        ensures next { result.1 ≡ property_reader_after self bytes.now }
+    {
+        let mut reader = self;
+        let found = reader.advance(bytes);
+        (found, reader)
+    }
+
+    // The same of the reader itself. Refused first: bytes that are too long. Then a reader at
     // or past their end is at its end, and stays as it is. Then refused: a property that is not whole,
     // its padding included. A refused reader stands at the end of these bytes, where the next step
     // over them finds the end unless they are too long.
     #[tactic(auto, using(note::proofs::Aligned::aligned_next), unfolding(crate::specs::Reader::property_step))]
-    pub fn step(&mut self, bytes: &[u8]) -> Result<Option<Property>, Refusal>
+    fn advance(&mut self, bytes: &[u8]) -> Result<Option<Property>, Refusal>
         ensures found { result ≡ property_step self.old bytes.now }
         ensures moved { self.new ≡ property_reader_after self.old bytes.now }
     {

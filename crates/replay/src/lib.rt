@@ -1,15 +1,12 @@
-// What the replays of the original's recorded answers share: the records of the standard input, one after
-// the other.
+// What the replays of the original's recorded answers share: how they count, and the parts of a record.
 #![tactic(auto)]
 
-ghost use Rattle.std.specs.Prelude.{◌≡◌, ◌+◌, ◌≤◌, get_or, IfOk};
+ghost use Rattle.std.specs.Prelude.{◌≡◌, ◌+◌, get_or};
 ghost use Rattle.replay.specs.Part.{part_of};
-
-use std::io;
-use std::io::{ErrorKind, Read};
+ghost use Rattle.replay.specs.Count.{counted};
 
 // The most records that are read.
-const MOST: u64 = 1000000;
+pub const MOST: u64 = 1000000;
 
 // How many records there were, and at how many of them the answer differs.
 #[derive(Clone, Copy, Debug, PartialEq, Eq)]
@@ -18,32 +15,22 @@ pub struct Tally {
     pub different: u64,
 }
 
-// Reads records of the lent length to the end of the input, and tries each. A shorter one at the end is not tried.
-pub fn replay<R: Read, F: Fn(&[u8]) -> bool>(
-    input: &mut R,
-    record: &mut [u8],
-    agrees: F,
-) -> io::Result<Tally>
-    requires { F.IsAlwaysCallable agrees }
-    ensures { IfOk result (λ tally. tally.different ≤ tally.ran) }
-{
-    let mut tally = Tally {
-        ran: 0,
-        different: 0,
-    };
-    for _ in 0..MOST {
-        if let Err(error) = input.read_exact(record) {
-            if error.kind() == ErrorKind::UnexpectedEof {
-                break;
-            }
-            return Err(error);
-        }
-        tally.ran += 1;
-        if !agrees(record) {
-            tally.different += 1;
+// Before the first record.
+pub const NONE_YET: Tally = Tally {
+    ran: 0,
+    different: 0,
+};
+
+impl Tally {
+    // With one record more, whose answer agrees or differs.
+    pub fn counted(self, agrees: bool) -> Tally
+        ensures { result ≡ counted self agrees }
+    {
+        Tally {
+            ran: self.ran.wrapping_add(1),
+            different: self.different.wrapping_add(u64::from(!agrees)),
         }
     }
-    Ok(tally)
 }
 
 // A part of a record: so many bytes from a place on, or none where the record is too short.

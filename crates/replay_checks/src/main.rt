@@ -6,8 +6,9 @@ use endian::kinds::Order;
 use endian::refusals::Refusal;
 use export::kinds::{class_of, order_of};
 use gnu_rules::Fault;
-use replay::{part_at, replay};
+use replay::{MOST, NONE_YET, part_at};
 use std::io;
+use std::io::{ErrorKind, Read};
 use word::{u8_at, u32_at};
 
 const RECORD: usize = 472;
@@ -55,8 +56,18 @@ fn agrees(record: &[u8]) -> bool {
 }
 
 fn main(rt: HostRuntime) -> io::Result<()> {
+    let mut input = rt.reader();
     let mut record = [0u8; RECORD];
-    let tally = replay(&mut rt.reader(), &mut record, agrees)?;
+    let mut tally = NONE_YET;
+    for _ in 0..MOST {
+        if let Err(error) = input.read_exact(&mut record) {
+            if error.kind() == ErrorKind::UnexpectedEof {
+                break;
+            }
+            return Err(error);
+        }
+        tally = tally.counted(agrees(&record));
+    }
     println!(rt;
         "{} recorded verdicts on hash tables, {} different",
         tally.ran, tally.different

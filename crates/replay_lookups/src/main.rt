@@ -6,8 +6,9 @@ use endian::kinds::Order;
 use endian::refusals::Refusal;
 use export::kinds::{class_of, order_of};
 use lookup::{Asked, Lookup, Parts};
-use replay::{part_at, replay};
+use replay::{MOST, NONE_YET, part_at};
 use std::io;
+use std::io::{ErrorKind, Read};
 use symbol::table::SymbolIndex;
 use version_match::Need;
 use version_parse::parse::parse;
@@ -129,8 +130,18 @@ fn agrees(record: &[u8]) -> bool {
 }
 
 fn main(rt: HostRuntime) -> io::Result<()> {
+    let mut input = rt.reader();
     let mut record = [0u8; RECORD];
-    let tally = replay(&mut rt.reader(), &mut record, agrees)?;
+    let mut tally = NONE_YET;
+    for _ in 0..MOST {
+        if let Err(error) = input.read_exact(&mut record) {
+            if error.kind() == ErrorKind::UnexpectedEof {
+                break;
+            }
+            return Err(error);
+        }
+        tally = tally.counted(agrees(&record));
+    }
     println!(rt;
         "{} recorded lookups in hash tables, {} different",
         tally.ran, tally.different

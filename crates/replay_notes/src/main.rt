@@ -7,8 +7,9 @@ use endian::refusals::Refusal;
 use export::kinds::{class_of, order_of};
 use note::reader::{Note, NoteReader, reader_for};
 use property_reader::{Property, PropertyReader, property_number};
-use replay::replay;
+use replay::{MOST, NONE_YET};
 use std::io;
+use std::io::{ErrorKind, Read};
 use word::{u8_at, u32_at};
 
 const RECORD: usize = 128;
@@ -98,7 +99,8 @@ fn number_agrees(step: &[u8], order: Order, property: Property, bytes: &[u8]) ->
 
 fn properties_agree(record: &[u8; RECORD], mut reader: PropertyReader, bytes: &[u8]) -> bool {
     for step in record[STEPS..].chunks(STEP) {
-        let found = reader.step(bytes);
+        let (found, next) = reader.step(bytes);
+        reader = next;
         if recorded_property(step) != Some(found) {
             return false;
         }
@@ -131,10 +133,18 @@ fn agrees(record: &[u8; RECORD]) -> bool {
 }
 
 fn main(rt: HostRuntime) -> io::Result<()> {
+    let mut input = rt.reader();
     let mut record = [0u8; RECORD];
-    let tally = replay(&mut rt.reader(), &mut record, |record| {
-        record.first_chunk().is_some_and(agrees)
-    })?;
+    let mut tally = NONE_YET;
+    for _ in 0..MOST {
+        if let Err(error) = input.read_exact(&mut record) {
+            if error.kind() == ErrorKind::UnexpectedEof {
+                break;
+            }
+            return Err(error);
+        }
+        tally = tally.counted(agrees(&record));
+    }
     println!(rt;
         "{} recorded walks over notes and properties, {} different",
         tally.ran, tally.different

@@ -4,8 +4,9 @@
 
 use endian::kinds::Order;
 use endian::refusals::Refusal;
-use replay::replay;
+use replay::{MOST, NONE_YET};
 use std::io;
+use std::io::{ErrorKind, Read};
 use strings::Place;
 use word::{u8_at, u32_at};
 
@@ -38,8 +39,18 @@ fn agrees(record: &[u8]) -> bool {
 }
 
 fn main(rt: HostRuntime) -> io::Result<()> {
+    let mut input = rt.reader();
     let mut record = [0u8; RECORD];
-    let tally = replay(&mut rt.reader(), &mut record, agrees)?;
+    let mut tally = NONE_YET;
+    for _ in 0..MOST {
+        if let Err(error) = input.read_exact(&mut record) {
+            if error.kind() == ErrorKind::UnexpectedEof {
+                break;
+            }
+            return Err(error);
+        }
+        tally = tally.counted(agrees(&record));
+    }
     println!(rt;
         "{} recorded answers about strings, {} different",
         tally.ran, tally.different

@@ -5,8 +5,9 @@
 use endian::kinds::Order;
 use endian::refusals::Refusal;
 use export::kinds::{class_of, order_of};
-use replay::replay;
+use replay::{MOST, NONE_YET};
 use std::io;
+use std::io::{ErrorKind, Read};
 use strings::Place;
 use symbol::table::SymbolIndex;
 use symbol_entry::Symbol;
@@ -58,8 +59,18 @@ fn agrees(record: &[u8]) -> bool {
 }
 
 fn main(rt: HostRuntime) -> io::Result<()> {
+    let mut input = rt.reader();
     let mut record = [0u8; RECORD];
-    let tally = replay(&mut rt.reader(), &mut record, agrees)?;
+    let mut tally = NONE_YET;
+    for _ in 0..MOST {
+        if let Err(error) = input.read_exact(&mut record) {
+            if error.kind() == ErrorKind::UnexpectedEof {
+                break;
+            }
+            return Err(error);
+        }
+        tally = tally.counted(agrees(&record));
+    }
     println!(rt;
         "{} recorded answers about symbols, {} different",
         tally.ran, tally.different

@@ -6,8 +6,9 @@ use endian::kinds::Order;
 use endian::refusals::Refusal;
 use export::kinds::order_of;
 use export_version_match::need_of;
-use replay::{part, part_at, replay};
+use replay::{MOST, NONE_YET, part, part_at};
 use std::io;
+use std::io::{ErrorKind, Read};
 use symbol::table::SymbolIndex;
 use version::index::VersionIndex;
 use version::table::{Versym, version_of};
@@ -98,8 +99,18 @@ fn agrees(record: &[u8]) -> bool {
 }
 
 fn main(rt: HostRuntime) -> io::Result<()> {
+    let mut input = rt.reader();
     let mut record = [0u8; RECORD];
-    let tally = replay(&mut rt.reader(), &mut record, agrees)?;
+    let mut tally = NONE_YET;
+    for _ in 0..MOST {
+        if let Err(error) = input.read_exact(&mut record) {
+            if error.kind() == ErrorKind::UnexpectedEof {
+                break;
+            }
+            return Err(error);
+        }
+        tally = tally.counted(agrees(&record));
+    }
     println!(rt;
         "{} recorded answers about versions, {} different",
         tally.ran, tally.different

@@ -41,7 +41,17 @@ fn walk(
         }
         probes += 1;
         let symbol = SymbolIndex(i);
-        if is_wanted(class, order, parts, symbol, asked) {
+        if is_wanted(
+            class,
+            order,
+            parts.symbols,
+            parts.strings,
+            parts.versyms,
+            parts.store,
+            parts.version_strings,
+            symbol,
+            asked,
+        ) {
             break Some(symbol);
         }
         let number = i as usize;

@@ -76,9 +76,13 @@ fn place_after(count: usize, at: usize, next: usize) -> usize
 
 // How many bytes there are from a place on, which must be so many that the record there is not short.
 fn left_at(s: &[u8], at: usize, size: usize, short: Refusal) -> Result<usize, Refusal>
+    requires { 0 < size }
     ensures { result ≡ left_at s.now at size short }
 {
-    let left = s.len().saturating_sub(at);
+    if s.len() < at {
+        return Err(short);
+    }
+    let left = s.len() - at;
     if left < size { Err(short) } else { Ok(left) }
 }
 

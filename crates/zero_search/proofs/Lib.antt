@@ -1,2 +1,2 @@
--- `Finding`: what the library's search for a zero byte finds.
+-- `Finding`: what the kit's search for a zero byte finds.
 mod Finding

@@ -5,11 +5,11 @@ use Rattle.gnu_check_hashes.proofs.hashes.symbol_hash.Goals as goal
 
 pub returns-in-Ok : goal.returns-in-Ok
 returns-in-Ok c =
-    let t = c.args.table in
+    let t = c.args in
     c.hash_at.ensures
     ∙ sym (hash_in_at t.class t.order t.symbols.now t.strings.now c.args.symbol.0 _ (sym c.symbol_at.ensures ∙ c.in-Ok.is))
 
 pub returns-in-Err : goal.returns-in-Err
 returns-in-Err c =
-    let t = c.args.table in
+    let t = c.args in
     sym (hash_in_none t.class t.order t.symbols.now t.strings.now c.args.symbol.0 _ (sym c.symbol_at.ensures ∙ c.in-Err.is))
