@@ -9,8 +9,8 @@ ghost use Rattle.word.specs.Bytes.{BytesAt};
 use endian::kinds::Order;
 use std::array;
 
-// The N bytes at a place. A byte past the end is 0. The place is compared with the length, not asked for by `get`: so a
-// caller that has tested its record tests no word of it again.
+// The N bytes at a place. A byte past the end is 0. The place is compared with the length, not asked for by `get`: where
+// a caller has tested how much is left at its place, the compiler then tests no word again.
 #[inline]
 fn bytes_at<const N: usize>(s: &[u8], at: usize) -> [u8; N]
     ensures { BytesAt N s.now at result }

@@ -10,7 +10,8 @@ use memchr::memchr_iter;
 // Where fewer bytes are left, the kit's search, which looks at so many at once, costs more than a plain one.
 const FEW: usize = 32;
 
-// Of those few, the first and the last so many are looked at in loops of a length that the compiler knows.
+// Where more than so many of those few are left, the first are looked at in a loop whose length the compiler knows,
+// and from half as many more on the last ones too.
 const NEAR: usize = 16;
 
 // The first zero from one place on and before another, or that other: byte by byte.
